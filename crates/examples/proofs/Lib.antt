@@ -1,0 +1,5 @@
+pub mod Below
+pub mod Places
+pub mod Trace
+pub mod Verdicts
+pub mod Checks

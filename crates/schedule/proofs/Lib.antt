@@ -1,0 +1,17 @@
+pub mod Sums
+pub mod Counts
+pub mod Largest
+pub mod Divisors
+pub mod Multiples
+pub mod Hyperperiods
+pub mod Firsts
+pub mod Clock
+pub mod Same
+pub mod Order
+pub mod Bounds
+pub mod Ranks
+pub mod Grows
+pub mod Repeats
+pub mod Sustains
+pub mod Verdicts
+pub mod Tells

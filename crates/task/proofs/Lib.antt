@@ -1,0 +1,4 @@
+pub mod Steps
+pub mod Obeying
+pub mod Admitting
+pub mod Holding

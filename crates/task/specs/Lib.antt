@@ -1,0 +1,4 @@
+pub mod Names
+pub mod Refusals
+pub mod Rules
+pub mod Tables
