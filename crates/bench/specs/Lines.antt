@@ -2,7 +2,7 @@
 use mathlib.Core.Path.{_≡_}
 use mathlib.Core.Bool.{cond}
 use mathlib.Core.List.{List, _++_}
-use Prim.Native.Nat.{ℕ}
+use Prim.Native.Nat.{ℕ, _≤_}
 use lib.Chars.{codes}
 use lib.Dec.{ltb}
 use Rattle.std.specs.declared.option.Option.{Option}
@@ -47,5 +47,5 @@ room-refusal room = cond (ltb room 48) (Some BufferTooShort) None
 
 -- what writing a line does to a buffer, by its answer: the line from the beginning and nothing else, or nothing
 abbrev pub Writes-line : (refusal : Option Refusal) (text before after : List ℕ) → Result ℕ Refusal → Type 0
-Writes-line refusal text before after (Ok n) = (refusal ≡ None) × Begins-with text before after n
+Writes-line refusal text before after (Ok n) = (refusal ≡ None) × Begins-with text before after n × (n ≤ 48)
 Writes-line refusal text before after (Err e) = (refusal ≡ Some e) × (after ≡ before)

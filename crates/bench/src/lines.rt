@@ -17,7 +17,8 @@ impl Verdict {
     /// Writes the verdict's line from the buffer's beginning.
     pub(crate) fn write(&self, buffer: &mut [u8]) -> usize
         requires { ⌜ 48 ≤ length (now buffer) ⌝ }
-        ensures { λ r. ⌜ Begins-with (verdict-line (now (self .entry))) (now (buffer .entry)) (now (buffer .exit)) r ⌝ }
+        ensures short { λ r. ⌜ r ≤ 48 ⌝ }
+        ensures text { λ r. ⌜ Begins-with (verdict-line (now (self .entry))) (now (buffer .entry)) (now (buffer .exit)) r ⌝ }
     {
         match self {
             Verdict::Holds { first, second } => put_two(buffer, b"HOLDS ", *first, *second),
@@ -36,7 +37,8 @@ impl Fault {
     /// Writes the fault's line from the buffer's beginning.
     fn write(&self, buffer: &mut [u8]) -> usize
         requires { ⌜ 48 ≤ length (now buffer) ⌝ }
-        ensures { λ r. ⌜ Begins-with (fault-line (now (self .entry))) (now (buffer .entry)) (now (buffer .exit)) r ⌝ }
+        ensures short { λ r. ⌜ r ≤ 48 ⌝ }
+        ensures text { λ r. ⌜ Begins-with (fault-line (now (self .entry))) (now (buffer .entry)) (now (buffer .exit)) r ⌝ }
     {
         match self {
             Fault::Load(LoadFault::Sheet { fault, place }) => {

@@ -32,7 +32,8 @@ fn put_number(buffer: &mut [u8], at: usize, n: u64) -> usize
 /// Writes a line of a word and two numbers from the beginning.
 pub(crate) fn put_two(buffer: &mut [u8], word: &[u8], a: u64, b: u64) -> usize
     requires { ⌜ length (now word) + length (decimal a) + length (decimal b) + 2 ≤ length (now buffer) ⌝ }
-    ensures { λ r. ⌜ Begins-with (two-numbers (now (word .entry)) a b) (now (buffer .entry)) (now (buffer .exit)) r ⌝ }
+    ensures length { λ r. ⌜ r ≡ length (now (word .entry)) + length (decimal a) + length (decimal b) + 2 ⌝ }
+    ensures text { λ r. ⌜ Begins-with (two-numbers (now (word .entry)) a b) (now (buffer .entry)) (now (buffer .exit)) r ⌝ }
 {
     let at = put(buffer, 0, word);
     let at = put_number(buffer, at, a);
@@ -44,7 +45,8 @@ pub(crate) fn put_two(buffer: &mut [u8], word: &[u8], a: u64, b: u64) -> usize
 /// Writes a line of a word and a number from the beginning.
 pub(crate) fn put_one(buffer: &mut [u8], word: &[u8], a: u64) -> usize
     requires { ⌜ length (now word) + length (decimal a) + 1 ≤ length (now buffer) ⌝ }
-    ensures { λ r. ⌜ Begins-with (one-number (now (word .entry)) a) (now (buffer .entry)) (now (buffer .exit)) r ⌝ }
+    ensures length { λ r. ⌜ r ≡ length (now (word .entry)) + length (decimal a) + 1 ⌝ }
+    ensures text { λ r. ⌜ Begins-with (one-number (now (word .entry)) a) (now (buffer .entry)) (now (buffer .exit)) r ⌝ }
 {
     let at = put(buffer, 0, word);
     let at = put_number(buffer, at, a);

@@ -1,6 +1,6 @@
 -- The kinds of worked examples, and what it means that one is right.
 use mathlib.Core.Path.{_≡_}
-use mathlib.Core.Bool.{Bool}
+use mathlib.Core.Bool.{Bool, true, false}
 use mathlib.Core.List.{List}
 use Prim.Native.Nat.{ℕ, _≤_, _<_}
 use lib.ListN.{length}
@@ -8,6 +8,7 @@ use Rattle.schedule.specs.Plan.{plain}
 use Rattle.schedule.specs.Schedule.{has-cpu, config}
 use Rattle.schedule.specs.Verdict.{Verdict, Fixes}
 use Rattle.task.specs.declared.entry.Entry.{Entry}
+use Rattle.task.specs.Tables.{In-bounds}
 use Rattle.policy.specs.Keys.{is-heavy}
 use Rattle.policy.specs.Sets.{left-of, word-of}
 use Rattle.trial.specs.Cycles.{table-period}
@@ -23,6 +24,9 @@ pub data Row : Type 0 where
   Running-from : (policy : Policy) (cpus : ℕ) (table : List Entry) (instant : ℕ) (set : ℕ) → Row
   -- Whether a task is heavy at the threshold a / b.
   Heavy-at : (a b : ℕ) (task : Entry) (heavy : Bool) → Row
+  -- Every task that keeps its bounds is heavy at the threshold a / b, or none is.
+  All-heavy-at : (a b : ℕ) → Row
+  None-heavy-at : (a b : ℕ) → Row
   -- The hyperperiod of a table, short enough for a trial ..
   Short-enough : (table : List Entry) (period : ℕ) → Row
   -- .. and too long for one.
@@ -33,5 +37,7 @@ Right (Verdict-after policy m table s v) = let p = plan-under policy table in Fi
 Right (Left-at policy m table t left) = let p = plan-under policy table in (i : ℕ) → i < length table → config p (plain p m) t i ≡ left-of left i
 Right (Running-from policy m table t set) = let p = plan-under policy table in word-of (has-cpu p m t (config p (plain p m) t)) 32 ≡ set
 Right (Heavy-at a b e heavy) = is-heavy a b e ≡ heavy
+Right (All-heavy-at a b) = (e : Entry) → In-bounds e → is-heavy a b e ≡ true
+Right (None-heavy-at a b) = (e : Entry) → In-bounds e → is-heavy a b e ≡ false
 Right (Short-enough table period) = (table-period (entry-in table) ≡ period) × (period ≤ 10000000)
 Right (Too-long table period) = (table-period (entry-in table) ≡ period) × (10000000 < period)

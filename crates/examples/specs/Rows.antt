@@ -1,16 +1,16 @@
 -- The table of worked examples.
 use mathlib.Core.Bool.{true, false}
 use mathlib.Core.List.{List, [], _∷_}
-use Prim.Native.Nat.{ℕ}
+use Prim.Native.Nat.{ℕ, _+_}
 use Rattle.std.specs.shelf.Lists.{All}
 use Rattle.schedule.specs.Verdict.{Missed, Holds, Running}
 use Rattle.task.specs.declared.entry.Entry.{Entry}
 use Rattle.examples.specs.Policies.{Deadline, Rank, Heavy-first}
-use Rattle.examples.specs.Kinds.{Row, Verdict-after, Left-at, Running-from, Heavy-at, Short-enough, Too-long, Right}
+use Rattle.examples.specs.Kinds.{Row, Verdict-after, Left-at, Running-from, Heavy-at, All-heavy-at, None-heavy-at, Short-enough, Too-long, Right}
 
--- a task by its number, which is its rank too, and its offset O, running time C, deadline D and period T
+-- a task by its number, which is its rank too and picks the letter that names it, and its offset O, running time C, deadline D and period T
 abbrev pub task : (number O C D T : ℕ) → Entry
-task i O C D T = record { number = i; name = 0 ∷ 0 ∷ 0 ∷ 0 ∷ 0 ∷ 0 ∷ 0 ∷ 0 ∷ []; rank = i; offset = O; runtime = C; deadline = D; period = T }
+task i O C D T = record { number = i; name = (65 + i) ∷ 32 ∷ 32 ∷ 32 ∷ 32 ∷ 32 ∷ 32 ∷ 32 ∷ []; rank = i; offset = O; runtime = C; deadline = D; period = T }
 
 -- two light tasks, and one that needs the whole of a CPU
 abbrev pub light-and-heavy : List Entry
@@ -67,14 +67,12 @@ rows =
     ∷ Heavy-at 1 2 (task 0 0 1 2 2) false
     -- .. one above it is ..
     ∷ Heavy-at 1 2 (task 2 0 5 5 5) true
-    -- .. at 0 / 1 every task of the examples is, even the lightest ..
+    -- .. at 0 / 1 every task is, even the lightest ..
+    ∷ All-heavy-at 0 1
     ∷ Heavy-at 0 1 (task 1 0 1 3163 3163) true
-    ∷ Heavy-at 0 1 (task 0 0 1 4 4) true
-    ∷ Heavy-at 0 1 (task 0 0 1 1 1) true
     -- .. and at 1 / 1 none, not even one that needs the whole of a CPU.
-    ∷ Heavy-at 1 1 (task 0 0 1 4 4) false
+    ∷ None-heavy-at 1 1
     ∷ Heavy-at 1 1 (task 2 0 5 5 5) false
-    ∷ Heavy-at 1 1 (task 0 0 1 1 1) false
     -- A trial may start at a hyperperiod of at most 10,000,000 ..
     ∷ Short-enough (task 0 0 1 3161 3161 ∷ task 1 0 1 3162 3162 ∷ []) 9995082
     -- .. and a little longer is too long.

@@ -1,10 +1,13 @@
 //! Judges the timing sheets on standard input, each a line of hex digits, and prints for each what `strapverdict` prints.
-use report::print::print_sheet;
+use report::report::REPORT_LENGTH;
+use report::report::report;
 use std::alloc::AllocError;
 use std::alloc::Global;
 use std::error::AnyError;
+use std::io;
 use std::io::BufRead;
 use std::io::BufReader;
+use std::io::Write;
 
 /// The value of a hex digit.
 fn digit(b: u8) -> Option<u8> {
@@ -35,13 +38,24 @@ fn spelled(line: &[u8], heap: Global) -> Result<Vec<u8>, AllocError> {
     Ok(bytes)
 }
 
+/// Prints what is to be said of a sheet.
+fn print_report<W: Write>(sheet: &[u8], out: &mut W) -> io::Result<()> {
+    let mut text = [0u8; REPORT_LENGTH];
+    if let Ok(end) = report(sheet, &mut text)
+        && let Some(printed) = text.get(0..end)
+    {
+        out.write_all(printed)?;
+    }
+    Ok(())
+}
+
 /// Judges each line.
 fn judge_lines(rt: &LibcRuntime) -> Result<(), AnyError> {
     let mut out = rt.stdout();
     for line in BufReader::new(rt.stdin()).lines(rt.alloc()) {
         let line = line?;
         let sheet = spelled(line.as_bytes(), rt.alloc())?;
-        print_sheet(sheet.as_slice(), &mut out)?;
+        print_report(sheet.as_slice(), &mut out)?;
     }
     Ok(())
 }

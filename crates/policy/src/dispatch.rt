@@ -35,11 +35,15 @@ fn active_age(slot: &Option<Task>, rest: u16, t: u64) -> u32
 }
 
 // The ages of the active jobs at `t`.
-fn active_ages(tasks: &[Option<Task>; 32], left: &[u16; 32], t: u64) -> [u32; 32]
+fn active_ages(tasks: &[Option<Task>; 32], left: &[u16; 32], active: u32, t: u64) -> [u32; 32]
+    requires { ⌜ active ≡ word-of (is-active (entry-at (now tasks)) (now left)) 32 ⌝ }
     ensures { λ r. ⌜ ((i : ℕ) → i < 32 → is-active (entry-at (now (tasks .entry))) (now (left .entry)) i ≡ true → getD r i 0 ≡ age-of (entry-at (now (tasks .entry)) i) t) ⌝ }
 {
     let mut ages = [0u32; 32];
     for i in 0..32 {
+        if active >> i == 0 {
+            break;
+        }
         ages[i] = active_age(&tasks[i], left[i], t);
     }
     ages
@@ -93,16 +97,21 @@ fn few_ahead<P: Policy>(
     tasks: &[Option<Task>; 32],
     ages: &[u32; 32],
     left: &[u16; 32],
+    active: u32,
     cpus: u8,
     key: &P::Key,
     i: usize,
 ) -> bool
+    requires { ⌜ active ≡ word-of (is-active (entry-at (now tasks)) (now left)) 32 ⌝ }
     ensures { λ r. ⌜ r ≡ ltb (count-ahead (precedes (now (policy .entry))) (aged-job (keyed (now (policy .entry))) (entry-at (now (tasks .entry))) (now (ages .entry)) (now (left .entry))) (now (key .entry)) i) cpus ⌝ }
 {
     let mut ahead: u8 = 0;
     for (j, slot) in tasks.iter().enumerate() {
         if ahead >= cpus {
             return false;
+        }
+        if active >> j == 0 {
+            break;
         }
         if let Some(task) = slot
             && left[j] > 0
@@ -167,10 +176,12 @@ fn runs<P: Policy>(
     tasks: &[Option<Task>; 32],
     ages: &[u32; 32],
     left: &[u16; 32],
+    active: u32,
     cpus: u8,
     marks: &mut Marks,
     i: usize,
 ) -> bool
+    requires active { ⌜ active ≡ word-of (is-active (entry-at (now tasks)) (now left)) 32 ⌝ }
     requires place { ⌜ i < 32 ⌝ }
     requires running { ⌜ Marked (precedes (now policy)) (aged-job (keyed (now policy)) (entry-at (now tasks)) (now ages) (now left)) cpus true (now marks .running) ⌝ }
     requires waiting { ⌜ Marked (precedes (now policy)) (aged-job (keyed (now policy)) (entry-at (now tasks)) (now ages) (now left)) cpus false (now marks .waiting) ⌝ }
@@ -187,7 +198,7 @@ fn runs<P: Policy>(
     if mark_behind(policy, tasks, ages, left, marks.running, &key, i) {
         return true;
     }
-    if few_ahead(policy, tasks, ages, left, cpus, &key, i) {
+    if few_ahead(policy, tasks, ages, left, active, cpus, &key, i) {
         marks.running = Some(i);
         true
     } else {
@@ -201,20 +212,30 @@ fn contest<P: Policy>(
     policy: &P,
     tasks: &[Option<Task>; 32],
     left: &[u16; 32],
+    active: u32,
     instant: u64,
     cpus: u8,
 ) -> u32
+    requires { ⌜ active ≡ word-of (is-active (entry-at (now tasks)) (now left)) 32 ⌝ }
     ensures { λ r. ⌜ r ≡ word-of (has-cpu (plan-of (keyed (now (policy .entry))) (precedes (now (policy .entry))) (entry-at (now (tasks .entry)))) cpus instant (left-of (now (left .entry)))) 32 ⌝ }
 {
-    let ages = active_ages(tasks, left, instant);
+    let ages = active_ages(tasks, left, active, instant);
     let mut marks = Marks {
         running: None,
         waiting: None,
     };
     let mut set: u32 = 0;
+    let mut found: u8 = 0;
     for i in 0..32 {
-        if runs(policy, tasks, &ages, left, cpus, &mut marks, i) {
+        if found >= cpus {
+            break;
+        }
+        if active >> i == 0 {
+            break;
+        }
+        if runs(policy, tasks, &ages, left, active, cpus, &mut marks, i) {
             set |= 1 << i;
+            found += 1;
         }
     }
     set
@@ -236,5 +257,5 @@ pub fn running_set<P: Policy>(
     if active.count_ones() <= u32::from(cpus) {
         return active;
     }
-    contest(policy, tasks, left, instant, cpus)
+    contest(policy, tasks, left, active, instant, cpus)
 }

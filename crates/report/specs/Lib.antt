@@ -1,2 +1,3 @@
 pub mod Prints
+pub mod Reports
 pub mod Prepares

@@ -2,7 +2,7 @@
 use mathlib.Core.Path.{_≡_}
 use mathlib.Core.Bool.{Bool, true, false}
 use mathlib.Core.List.{List}
-use Prim.Native.Nat.{ℕ}
+use Prim.Native.Nat.{ℕ, _+_, _≤_}
 use lib.ListN.{length, getD}
 use Rattle.std.specs.declared.option.Option.{Option}
 use Rattle.std.specs.declared.option.Option.the-variants.{Some, None}
@@ -19,7 +19,7 @@ use Rattle.bench.specs.declared.verdict.Verdict.{Verdict}
 use Rattle.bench.specs.Judged.{Judged}
 use Rattle.bench.specs.Lines.{verdict-line, fault-line, room-refusal}
 use Rattle.bench.specs.Steps.{start-refusal}
-use Rattle.bench.specs.Text.{Begins-with}
+use Rattle.bench.specs.Text.{Written, Begins-with}
 use Rattle.report.specs.declared.printed.Printed.{Printed}
 
 -- the entry of task i in a table
@@ -51,5 +51,12 @@ module _ {K : Type 0} (keyed : Entry → ℕ → K) (le : K → K → Bool) (byt
   abbrev pub Prints : (before after : List ℕ) → Result Printed Refusal → Type 0
   Prints before after (Ok r) =
       (room-refusal (length before) ≡ None)
-      × ((text : List ℕ) × Line-of-sheet (r .refused) text × Begins-with text before after (r .length))
+      × ((text : List ℕ) × Line-of-sheet (r .refused) text × Begins-with text before after (r .length) × (r .length ≤ 48))
   Prints before after (Err e) = (room-refusal (length before) ≡ Some e) × (after ≡ before)
+
+  -- a line was written at `at`, and the bytes before and after it are as they were
+  pub record Prints-at (at : ℕ) (before after : List ℕ) (r : Printed) : Type 0 where
+    pub text : List ℕ
+    pub line : Line-of-sheet (r .refused) text
+    pub written : Written at text before after (at + r .length)
+    pub short : r .length ≤ 48

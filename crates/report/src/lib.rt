@@ -1,4 +1,4 @@
-//! From the bytes of a sheet to the lines that are printed for it.
+//! From the bytes of a sheet to the text that is printed for it.
 pub mod judge;
-pub mod print;
 pub mod printed;
+pub mod report;

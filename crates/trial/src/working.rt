@@ -9,8 +9,6 @@ pub(crate) fn work(left: &mut [u16; 32], set: u32)
     ensures { λ _. ⌜ ((i : ℕ) → i < 32 → left-of (now (left .exit)) i ≡ cond (eqb ((set / 2 ^ i) % 2) 1) (left-of (now (left .entry)) i - 1) (left-of (now (left .entry)) i)) ⌝ }
 {
     for i in 0..32 {
-        if (set >> i) % 2 == 1 && left[i] > 0 {
-            left[i] -= 1;
-        }
+        left[i] = left[i].saturating_sub(((set >> i) % 2) as u16);
     }
 }

@@ -13,4 +13,4 @@ returns c =
     let w1 = c .put-at .ensures in
     let w2 = text-more 0 _ _ _ _ _ _ _ w1 (c .put-number-at .ensures) in
     let w3 = text-more 0 _ _ _ _ _ _ _ w2 (c .put .ensures) in
-    from-start _ _ _ _ w3
+    record { length = omega (arith, c .put-at .ensures .upto, c .put-number-at .ensures .upto, c .put .ensures .upto); text = from-start _ _ _ _ w3 }

@@ -22,4 +22,4 @@ returns c =
     let w3 = text-more 0 _ _ _ _ _ _ _ w2 (c .put-at-2 .ensures) in
     let w4 = text-more 0 _ _ _ _ _ _ _ w3 (c .put-number-at-2 .ensures) in
     let w5 = text-more 0 _ _ _ _ _ _ _ w4 (c .put .ensures) in
-    from-start _ _ _ _ w5
+    record { length = omega (arith, c .put-at .ensures .upto, c .put-number-at .ensures .upto, c .put-at-2 .ensures .upto, c .put-number-at-2 .ensures .upto, c .put .ensures .upto); text = from-start _ _ _ _ w5 }

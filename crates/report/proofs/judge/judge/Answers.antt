@@ -31,10 +31,11 @@ returns-in-Ok g c =
         verdict-line (verdict-of (w .mode)),
         verdict (verdict-of (w .mode)) (verdict-of-sheet key le (c .args .sheet .now) v u w (c .in-Ok .ensures tt) (c .give-runs .ensures .runs) (c .args .policy) (c .new-bench .ensures .policy-is) (c .give-runs .ensures .view) (c .line .ensures .judged)),
         q .1,
+        q .2,
       ),
     )
 
 pub returns : need.returns
 returns g c =
     let q = c .in-Continue-length-2 .ensures tt in
-    (q .0, (fault-line (c .in-Err .fault), fault (c .in-Err .fault) (c .in-Err .ensures tt), q .1))
+    (q .0, (fault-line (c .in-Err .fault), fault (c .in-Err .fault) (c .in-Err .ensures tt), q .1, q .2))
