@@ -1,4 +1,7 @@
 //! The bench: a table of tasks, a policy and a trial, changed by its calls and nothing else; and the lines that are printed.
+
+#![tactic(auto)]
+
 /// The bench.
 pub mod bench;
 /// Why a sheet is not judged.

@@ -1,4 +1,7 @@
 //! Judges the timing sheets on standard input, each a line of hex digits, and prints for each what `strapverdict` prints.
+
+#![tactic(auto)]
+
 use report::report::{REPORT_LENGTH, report};
 use std::alloc::{AllocError, Global};
 use std::io;

@@ -1,4 +1,7 @@
 //! Policies: what orders the jobs, and which jobs a slot runs.
+
+#![tactic(auto)]
+
 /// How old a job is.
 pub mod age;
 /// Earliest deadline first.

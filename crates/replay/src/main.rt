@@ -14,6 +14,9 @@
 //!
 //! A LENGTH that is handed in is the buffer's, and one that is answered is of what was written. A line that is no call, or
 //! a call before there is a bench, is answered with "unreadable". Blank lines and lines that begin with # are skipped.
+
+#![tactic(auto)]
+
 mod answer;
 mod benches;
 mod perform;

@@ -1,6 +1,9 @@
 //! The endless schedule of periodic tasks on identical CPUs: definitions (specs/) and theorems over plain numbers.
 //! The crate holds no state and no code that runs. The contract of the one function below names the theorems, so that the
 //! crate is refused without their proofs; specs/Claims.antt says in a sentence what each one means.
+
+#![tactic(auto)]
+
 ghost use Rattle.schedule.specs.Claims.{HyperperiodIsLeast, LastOffsetIsLargest, AtMostMRun, LessStaysLessOverASlot, LessStaysLessAtAnInstant, Growth, SomeBoundariesAgree, Repetition, NoMissLasts, Sustainability, OneVerdict, SettledVerdictsPromise, OneSettledVerdict};
 
 /// The theorems of the endless schedule.

@@ -1,4 +1,7 @@
 //! Timing sheets: what their bytes tell, a number of CPUs and a table of tasks, or the fault of the first bad record and its place; and how a table is written as a sheet.
+
+#![tactic(auto)]
+
 /// The decoding of sheets.
 pub mod decode;
 /// The encoding of tables as sheets.

@@ -1,4 +1,7 @@
 //! Judges the timing sheet on standard input, and prints its verdicts.
+
+#![tactic(auto)]
+
 use report::report::{REPORT_LENGTH, report};
 use std::io;
 use std::io::{Read, Write};

@@ -1,4 +1,7 @@
 //! Tasks: what is entered for one, the bounds that every task keeps, the table of tasks, and the refusals with their numbers.
+
+#![tactic(auto)]
+
 /// The checks of figures by themselves.
 pub mod checks;
 /// A table takes entries.

@@ -1,4 +1,7 @@
 //! One trial of a table on some CPUs: its slots one by one, up to the first instant that decides.
+
+#![tactic(auto)]
+
 /// The largest offset and the hyperperiod of a table.
 pub mod cycle;
 /// The latest releases, and until when nothing happens.
