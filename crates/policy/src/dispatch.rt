@@ -49,7 +49,7 @@ fn job_key<P: Policy>(
     i: usize,
 ) -> Option<P::Key>
     requires { i < 32 }
-    ensures { result ≡ set_job (keyed policy.now) (entry_at tasks.now) jobs released.now instant i }
+    ensures { result ≡ set_job (P.Policy.keyed policy.now) (entry_at tasks.now) jobs released.now instant i }
 {
     match &tasks[i] {
         Some(task) if (jobs >> i) % 2 == 1 => Some(policy.key(
@@ -63,7 +63,7 @@ fn job_key<P: Policy>(
 // Whether the job of task `j`, of key `a`, stands before the job of task `i`, of key `b`. As of two keys one is always at
 // or before the other, one comparison tells.
 fn stands_before<P: Policy>(policy: &P, a: &P::Key, j: usize, b: &P::Key, i: usize) -> bool
-    ensures { result ≡ stands_before (precedes policy.now) a.now j b.now i }
+    ensures { result ≡ stands_before (P.Policy.precedes policy.now) a.now j b.now i }
 {
     if j < i {
         policy.at_or_before(a, b)
@@ -83,7 +83,7 @@ fn few_ahead<P: Policy>(
     key: &P::Key,
     i: usize,
 ) -> bool
-    ensures { result ≡ nat_lt (count_ahead (precedes policy.now) (set_job (keyed policy.now) (entry_at tasks.now) jobs released.now instant) key.now i) cpus }
+    ensures { result ≡ nat_lt (count_ahead (P.Policy.precedes policy.now) (set_job (P.Policy.keyed policy.now) (entry_at tasks.now) jobs released.now instant) key.now i) cpus }
 {
     let mut ahead: u8 = 0;
     let mut j = next_in(jobs, 0);
@@ -114,7 +114,7 @@ fn mark_ahead<P: Policy>(
     i: usize,
 ) -> bool
     requires { InTable mark }
-    ensures { result ≡ mark_ahead (precedes policy.now) (set_job (keyed policy.now) (entry_at tasks.now) jobs released.now instant) mark key.now i }
+    ensures { result ≡ mark_ahead (P.Policy.precedes policy.now) (set_job (P.Policy.keyed policy.now) (entry_at tasks.now) jobs released.now instant) mark key.now i }
 {
     match mark {
         Some(j) => match job_key(policy, tasks, released, jobs, instant, j) {
@@ -137,7 +137,7 @@ fn mark_behind<P: Policy>(
     i: usize,
 ) -> bool
     requires { InTable mark }
-    ensures { result ≡ mark_behind (precedes policy.now) (set_job (keyed policy.now) (entry_at tasks.now) jobs released.now instant) mark key.now i }
+    ensures { result ≡ mark_behind (P.Policy.precedes policy.now) (set_job (P.Policy.keyed policy.now) (entry_at tasks.now) jobs released.now instant) mark key.now i }
 {
     match mark {
         Some(j) => match job_key(policy, tasks, released, jobs, instant, j) {
@@ -161,11 +161,11 @@ fn runs<P: Policy>(
     i: usize,
 ) -> bool
     requires place { i < 32 }
-    requires running { Marked (precedes policy.now) (set_job (keyed policy.now) (entry_at tasks.now) jobs released.now instant) cpus true marks.old.running }
-    requires waiting { Marked (precedes policy.now) (set_job (keyed policy.now) (entry_at tasks.now) jobs released.now instant) cpus false marks.old.waiting }
-    ensures told { result ≡ runs_of (precedes policy.now) (set_job (keyed policy.now) (entry_at tasks.now) jobs released.now instant) cpus i }
-    ensures running { Marked (precedes policy.now) (set_job (keyed policy.now) (entry_at tasks.now) jobs released.now instant) cpus true marks.new.running }
-    ensures waiting { Marked (precedes policy.now) (set_job (keyed policy.now) (entry_at tasks.now) jobs released.now instant) cpus false marks.new.waiting }
+    requires running { Marked (P.Policy.precedes policy.now) (set_job (P.Policy.keyed policy.now) (entry_at tasks.now) jobs released.now instant) cpus true marks.old.running }
+    requires waiting { Marked (P.Policy.precedes policy.now) (set_job (P.Policy.keyed policy.now) (entry_at tasks.now) jobs released.now instant) cpus false marks.old.waiting }
+    ensures told { result ≡ runs_of (P.Policy.precedes policy.now) (set_job (P.Policy.keyed policy.now) (entry_at tasks.now) jobs released.now instant) cpus i }
+    ensures running { Marked (P.Policy.precedes policy.now) (set_job (P.Policy.keyed policy.now) (entry_at tasks.now) jobs released.now instant) cpus true marks.new.running }
+    ensures waiting { Marked (P.Policy.precedes policy.now) (set_job (P.Policy.keyed policy.now) (entry_at tasks.now) jobs released.now instant) cpus false marks.new.waiting }
 {
     let Some(key) = job_key(policy, tasks, released, jobs, instant, i) else {
         return false;
@@ -212,7 +212,7 @@ fn contest<P: Policy>(
     instant: u64,
     cpus: u8,
 ) -> u32
-    ensures { (left : List ℕ) → Known (entry_at tasks.now) left jobs released.now instant → result ≡ word_of (has_cpu (plan_of (keyed policy.now) (precedes policy.now) (entry_at tasks.now)) cpus instant (left_of left)) 32 }
+    ensures { (left : List ℕ) → Known (entry_at tasks.now) left jobs released.now instant → result ≡ word_of (has_cpu (plan_of (P.Policy.keyed policy.now) (P.Policy.precedes policy.now) (entry_at tasks.now)) cpus instant (left_of left)) 32 }
 {
     let mut marks = Marks {
         running: None,
@@ -245,7 +245,7 @@ pub fn running_among<P: Policy>(
     instant: u64,
     cpus: u8,
 ) -> u32
-    ensures { (left : List ℕ) → Known (entry_at tasks.now) left jobs released.now instant → result ≡ word_of (has_cpu (plan_of (keyed policy.now) (precedes policy.now) (entry_at tasks.now)) cpus instant (left_of left)) 32 }
+    ensures { (left : List ℕ) → Known (entry_at tasks.now) left jobs released.now instant → result ≡ word_of (has_cpu (plan_of (P.Policy.keyed policy.now) (P.Policy.precedes policy.now) (entry_at tasks.now)) cpus instant (left_of left)) 32 }
 {
     if jobs.count_ones() <= u32::from(cpus) {
         return jobs;
@@ -262,8 +262,8 @@ pub fn running_set<P: Policy>(
     instant: u64,
     cpus: u8,
 ) -> u32
-    ensures set { result ≡ word_of (has_cpu (plan_of (keyed policy.now) (precedes policy.now) (entry_at tasks.now)) cpus instant (left_of left.now)) 32 }
-    ensures count { count_ones result ≡ min cpus (count_below 32 (active (plan_of (keyed policy.now) (precedes policy.now) (entry_at tasks.now)) (left_of left.now))) }
+    ensures set { result ≡ word_of (has_cpu (plan_of (P.Policy.keyed policy.now) (P.Policy.precedes policy.now) (entry_at tasks.now)) cpus instant (left_of left.now)) 32 }
+    ensures count { count_ones result ≡ min cpus (count_below 32 (active (plan_of (P.Policy.keyed policy.now) (P.Policy.precedes policy.now) (entry_at tasks.now)) (left_of left.now))) }
 {
     let jobs = active_set(tasks, left);
     let released = latest_releases(tasks, instant);

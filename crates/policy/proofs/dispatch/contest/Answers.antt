@@ -12,7 +12,7 @@ use Rattle.policy.proofs.Running.{set_by_ages}
 use Rattle.policy.proofs.Idle.{idle_waits}
 use Rattle.policy.proofs.Stopping.{count_next, word_next, word_found}
 use Rattle.policy.proofs.dispatch.contest.Goals as goal
-use Rattle.policy.proofs.dispatch.contest.Goals.{then_runs, else-runs}
+use Rattle.policy.proofs.dispatch.contest.Goals.{then-runs, else-runs}
 
 one_more : (f : ℕ → Bool) (i n : ℕ) → n ≡ count_below i f → f i ≡ true → n + 1 ≡ count_below (i + 1) f
 one_more f i n e t = let z : ◌≡◌ {A = ℕ} (cond (f i) 1 0) 1 = ap (λ b. cond b 1 0) t in omega (arith, count_more i f)
@@ -24,8 +24,8 @@ pub loop-i-init : goal.loop-i-init
 loop-i-init g c =
     let p = g.P.Policy in
     let a = c.args in
-    let n = c.next-in-i.ensures in
-    let i = c.next-in-i.result in
+    let n = c.next_in-i.ensures in
+    let i = c.next_in-i.result in
     let key = p.keyed a.policy.now in
     let le = p.precedes a.policy.now in
     let at = entry_at a.tasks.now in
@@ -38,8 +38,8 @@ loop-i-preserved g c =
     let p = g.P.Policy in
     let a = c.args in
     let i = c.loop-i.i in
-    let next = c.next-in-i-in-loop-i.result in
-    let n = c.next-in-i-in-loop-i.ensures in
+    let next = c.next_in-i-in-loop-i.result in
+    let n = c.next_in-i-in-loop-i.ensures in
     let key = p.keyed a.policy.now in
     let le = p.precedes a.policy.now in
     let at = entry_at a.tasks.now in
@@ -49,7 +49,7 @@ loop-i-preserved g c =
     let r = c.runs.ensures in
     let more : (c.if-runs.set ≡ word_of f (i + 1)) × (c.if-runs.found ≡ count_below (i + 1) f) × (c.if-runs.found ≤ i + 1) =
     elim c.if-runs.branch [
-      | then_runs w ↦
+      | then-runs w ↦
           let on : f i ≡ true = sym r.told ∙ w.if-runs.true in
           (w.set-is ∙ word_set f i c.loop-i.set (omega arith) inv.0 on, w.found-is ∙ one_more f i c.loop-i.found inv.1 on, omega (arith, w.found-is, inv.2))
       | else-runs w ↦

@@ -15,11 +15,11 @@ pub loop-j-init : goal.loop-j-init
 loop-j-init g c =
     let p = g.P.Policy in
     let a = c.args in
-    let n = c.next-in-j.ensures in
+    let n = c.next_in-j.ensures in
     let le = p.precedes a.policy.now in
     let f : ℕ → Bool = λ j. ahead_of le (set_job (p.keyed a.policy.now) (entry_at a.tasks.now) a.jobs a.released.now a.instant j) j a.key.now a.i in
-    let none : count_below c.next-in-j.result f ≡ 0 =
-    count_next a.jobs 0 c.next-in-j.result n (omega arith) f (λ k off. idle_behind (p.keyed a.policy.now) le (entry_at a.tasks.now) a.jobs a.released.now a.instant a.key.now a.i k off) ∙ count_none f in
+    let none : count_below c.next_in-j.result f ≡ 0 =
+    count_next a.jobs 0 c.next_in-j.result n (omega arith) f (λ k off. idle_behind (p.keyed a.policy.now) le (entry_at a.tasks.now) a.jobs a.released.now a.instant a.key.now a.i k off) ∙ count_none f in
     (omega arith, sym none, n.within, n.member)
 
 pub loop-j-preserved : goal.loop-j-preserved
@@ -27,14 +27,14 @@ loop-j-preserved g c =
     let p = g.P.Policy in
     let a = c.args in
     let j = c.loop-j.j in
-    let n = c.next-in-j-in-loop-j.ensures in
+    let n = c.next_in-j-in-loop-j.ensures in
     let le = p.precedes a.policy.now in
     let f : ℕ → Bool = λ j. ahead_of le (set_job (p.keyed a.policy.now) (entry_at a.tasks.now) a.jobs a.released.now a.instant j) j a.key.now a.i in
     let on : has a.jobs j ≡ true = c.loop-j.invariant.3 c.loop-j-test.true in
     let more : c.match-tasks-j.ahead ≡ count_below (j + 1) f = search (rules, count_more, get_or_read) in
     let few : c.match-tasks-j.ahead ≤ j + 1 = search rules in
-    let same : count_below c.next-in-j-in-loop-j.result f ≡ count_below (j + 1) f =
-    count_next a.jobs (j + 1) c.next-in-j-in-loop-j.result n (omega arith) f (λ k off. idle_behind (p.keyed a.policy.now) le (entry_at a.tasks.now) a.jobs a.released.now a.instant a.key.now a.i k off) in
+    let same : count_below c.next_in-j-in-loop-j.result f ≡ count_below (j + 1) f =
+    count_next a.jobs (j + 1) c.next_in-j-in-loop-j.result n (omega arith) f (λ k off. idle_behind (p.keyed a.policy.now) le (entry_at a.tasks.now) a.jobs a.released.now a.instant a.key.now a.i k off) in
     (omega (arith, n.onward (omega arith)), more ∙ sym same, n.within, n.member)
 
 pub returns-then-ahead-cpus : goal.returns-then-ahead-cpus

@@ -5,8 +5,8 @@ use Rattle.policy.specs.Dispatch.{set_job, runs_of}
 use Rattle.policy.proofs.Running.{behind_waiting, before_running}
 use Rattle.policy.proofs.dispatch.runs.Goals as goal
 
-pub returns-then-mark-ahead : goal.returns-then-mark-ahead
-returns-then-mark-ahead g c =
+pub returns-then-mark_ahead : goal.returns-then-mark_ahead
+returns-then-mark_ahead g c =
     let a = c.args in
     let le = g.P.Policy.precedes a.policy.now in
     let jobs = set_job (g.P.Policy.keyed a.policy.now) (entry_at a.tasks.now) a.jobs a.released.now a.instant in
@@ -15,8 +15,8 @@ returns-then-mark-ahead g c =
     behind_waiting le (g.met.P.Policy.transitive a.policy.now) jobs a.cpus a.marks.now.waiting a.i c.in-Some.key c.requires.waiting here (search rules) in
     record { told = sym waits; running = c.requires.running; waiting = c.requires.waiting }
 
-pub returns-then-mark-behind : goal.returns-then-mark-behind
-returns-then-mark-behind g c =
+pub returns-then-mark_behind : goal.returns-then-mark_behind
+returns-then-mark_behind g c =
     let a = c.args in
     let le = g.P.Policy.precedes a.policy.now in
     let jobs = set_job (g.P.Policy.keyed a.policy.now) (entry_at a.tasks.now) a.jobs a.released.now a.instant in

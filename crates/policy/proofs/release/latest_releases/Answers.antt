@@ -11,11 +11,11 @@ loop-i-preserved c =
     let xs = c.loop-i.released in
     let i = c.loop-i.i in
     let ts = c.args.tasks.now in
-    let b = c.latest-release.result in
+    let b = c.latest_release.result in
     let lt : i < length xs = omega arith in
     let lt2 : i < length ts = search rules in
     let T : Option Task → Type 0 = λ o. Latest (entry_of o) c.args.t b in
-    let h : T (get_or ts i c.index-tasks-i.result) = c.latest-release.ensures in
+    let h : T (get_or ts i c.index-tasks-i.result) = c.latest_release.ensures in
     let q : T (get_or ts i None) = subst T (get_or_default ts i c.index-tasks-i.result None lt2) h in
     let U : ℕ → Type 0 = λ n. Latest (entry_at ts i) c.args.t n in (
       simp length-set c.loop-i.invariant.0,

@@ -10,7 +10,7 @@ returns-in-69 c = text_from_reads c.args.bytes.now en (omega (arith, ltb-true, l
 
 pub returns-in-Some : goal.returns-in-Some
 returns-in-Some c =
-    let f : (i : ℕ) → get_or c.args.bytes.now i 0 < 256 = λ i. let z = c.type-inv.bytes i in omega arith in
+    let f : (i : ℕ) → get_or c.args.bytes.now i 0 < 256 = λ i. let z = c.type_inv.bytes i in omega arith in
     let s = take (length c.args.bytes.now - 2) (drop 2 c.args.bytes.now) in
     let q = c.in-Some.ensures in
     reads_as c.args.place c.args.bytes.now s c.in-Some.entry c.in-Some.rest.now f

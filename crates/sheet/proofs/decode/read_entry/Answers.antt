@@ -6,7 +6,7 @@ use Rattle.sheet.proofs.decode.read_entry.Goals as goal
 pub returns : goal.returns
 returns c = (
   omega arith,
-  entry_as c.args.body.now c.name-in-name.result c.u32-at.result c.u16-at.result c.u16-at-2.result c.u16-at-3.result
-      c.name-in-name.ensures c.u32-at.ensures c.u16-at.ensures c.u16-at-2.ensures c.u16-at-3.ensures,
+  entry_as c.args.body.now c.name_in-name.result c.u32_at.result c.u16_at.result c.u16_at-2.result c.u16_at-3.result
+      c.name_in-name.ensures c.u32_at.ensures c.u16_at.ensures c.u16_at-2.ensures c.u16_at-3.ensures,
   take_rest c.args.body.now 20,
 )

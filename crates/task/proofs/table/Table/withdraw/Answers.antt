@@ -4,20 +4,20 @@ use Rattle.task.proofs.Steps.{entry_there}
 use Rattle.task.proofs.Leaving.{no_such_task, may_go, entries_less, table_less}
 use Rattle.task.proofs.table.Table.withdraw.Goals as goal
 
-pub returns-then-is-none : goal.returns-then-is-none
-returns-then-is-none c = (
-  no_such_task (entries c.args.self.now.tasks) c.args.number (omega arith) (entry_there c.args.self.now.tasks c.args.number _ _ (omega arith) (sym c.if-is-none.ensures)),
+pub returns-then-is_none : goal.returns-then-is_none
+returns-then-is_none c = (
+  no_such_task (entries c.args.self.now.tasks) c.args.number (omega arith) (entry_there c.args.self.now.tasks c.args.number _ _ (omega arith) (sym c.if-is_none.ensures)),
   refl,
 )
 
-pub invariant-of-self : goal.invariant-of-self
-invariant-of-self c =
+pub invariant_of-self : goal.invariant_of-self
+invariant_of-self c =
     let t = c.args.self.now in
     let p = table_less t.tasks c.args.number t.numbered t.distinct in
-    (length-set t.tasks c.args.number None ∙ t.places, (p.0, (p.1, tt)))
+    record { places = length-set t.tasks c.args.number None ∙ t.places; numbered = p.0; distinct = p.1 }
 
 pub returns : goal.returns
 returns c = (
-  may_go (entries c.args.self.now.tasks) c.args.number (omega arith) (entry_there c.args.self.now.tasks c.args.number _ _ (omega arith) (sym c.if-is-none.ensures)),
+  may_go (entries c.args.self.now.tasks) c.args.number (omega arith) (entry_there c.args.self.now.tasks c.args.number _ _ (omega arith) (sym c.if-is_none.ensures)),
   entries_less c.args.self.now.tasks c.args.number,
 )
