@@ -24,7 +24,7 @@ impl Trial {
     fn tick<P: Policy>(&mut self, policy: &P, tasks: &[Option<Task>; 32], watch: &Watch) -> u32
         requires instant { self.old.instant < 1000000000000000 }
         requires watched { Watched tasks.now self.old watch.now }
-        ensures ticked { Ticked (plan_of (keyed policy.now) (precedes policy.now) (entry_at tasks.now)) self.old self.new }
+        ensures ticked { Ticked (plan_of (P.Policy.keyed policy.now) (P.Policy.precedes policy.now) (entry_at tasks.now)) self.old self.new }
         ensures still { result ≡ word_of (is_active (entry_at tasks.now) self.new.left) 32 }
     {
         let ran = running_among(
@@ -45,7 +45,7 @@ impl Trial {
     fn pass<P: Policy>(&mut self, policy: &P, tasks: &[Option<Task>; 32], watch: &mut Watch) -> u32
         requires instant { self.old.instant < 1000000000000000 }
         requires watched { Watched tasks.now self.old watch.old }
-        ensures passes { Passes (plan_of (keyed policy.now) (precedes policy.now) (entry_at tasks.now)) self.old result self.new }
+        ensures passes { Passes (plan_of (P.Policy.keyed policy.now) (P.Policy.precedes policy.now) (entry_at tasks.now)) self.old result self.new }
         ensures watched { Watched tasks.now self.new watch.new }
     {
         watch.active = self.tick(policy, tasks, watch);
@@ -80,7 +80,7 @@ impl Trial {
 
     /// Up to `n` slots, left at the first instant that decides.
     pub fn run<P: Policy>(&mut self, policy: &P, tasks: &[Option<Task>; 32], n: u32) -> Outcome
-        ensures { Runs (plan_of (keyed policy.now) (precedes policy.now) (entry_at tasks.now)) self.old n result self.new }
+        ensures { Runs (plan_of (P.Policy.keyed policy.now) (P.Policy.precedes policy.now) (entry_at tasks.now)) self.old n result self.new }
     {
         let mut outcome = Outcome::Ran;
         let mut watch = Watch {

@@ -11,7 +11,7 @@ returns-in-None c =
     let ts = c.args.tasks.now in
     let i = c.loop-i.i in
     let lt : i < length ts = search rules in
-    let e = span_more ts i c.loop-i.multiple c.period-in.result c.index-tasks-i.result lt c.loop-i.invariant.0 c.period-in.ensures.period in
+    let e = span_more ts i c.loop-i.multiple c.period_in.result c.index-tasks-i.result lt c.loop-i.invariant.0 c.period_in.ensures.period in
     omega (arith, e, span_upto ts i (omega arith), c.in-None.ensures)
 
 pub loop-i-preserved : goal.loop-i-preserved
@@ -20,5 +20,5 @@ loop-i-preserved c =
     let i = c.loop-i.i in
     let lt : i < length ts = search rules in
     let q = c.in-Some.ensures in
-    let e = span_more ts i c.loop-i.multiple c.period-in.result c.index-tasks-i.result lt c.loop-i.invariant.0 c.period-in.ensures.period in
-    (q.0 ∙ e, q.1, omega (arith, q.0, lcm_positive c.loop-i.multiple c.period-in.result c.loop-i.invariant.2 c.period-in.ensures.positive))
+    let e = span_more ts i c.loop-i.multiple c.period_in.result c.index-tasks-i.result lt c.loop-i.invariant.0 c.period_in.ensures.period in
+    (q.0 ∙ e, q.1, omega (arith, q.0, lcm_positive c.loop-i.multiple c.period_in.result c.loop-i.invariant.2 c.period_in.ensures.positive))

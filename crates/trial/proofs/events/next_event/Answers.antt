@@ -23,10 +23,10 @@ loop-i-preserved c =
     elim c.match-tasks-i.branch [
       | in-Some+then-next-event w ↦
           let e : get_or ts i None ≡ Some w.in-Some.task = let is = w.in-Some.is in cc in
-          subst C (sym e) (λ u l m. w.next-of-next.ensures u l (omega (arith, w.event-is)))
+          subst C (sym e) (λ u l m. w.next_of-next.ensures u l (omega (arith, w.event-is)))
       | in-Some+else-next-event w ↦
           let e : get_or ts i None ≡ Some w.in-Some.task = let is = w.in-Some.is in cc in
-          subst C (sym e) (λ u l m. w.next-of-next.ensures u l (omega (arith, w.event-is, w.if-next-event.false)))
+          subst C (sym e) (λ u l m. w.next_of-next.ensures u l (omega (arith, w.event-is, w.if-next-event.false)))
       | in-None w ↦
           let e : get_or ts i None ≡ None = let is = w.in-None.is in cc in
           subst C (sym e) (λ u l m. record { no_release = refl; no_deadline = refl })

@@ -14,5 +14,5 @@ loop-i-preserved c =
       simp length-set c.loop-i.invariant.0,
       below_more _ _
           (λ k h. let ne : k ≢ c.loop-i.i = omega arith in rw get_or-set_other (c.loop-i.invariant.1 k h))
-          (get_or-set_same xs i c.first-job.result 0 lt ∙ (c.first-job.ensures ∙ ap (λ o. opens (entry_of o) 0 0) (get_or_default ts i c.index-tasks-i.result None lt2))),
+          (get_or-set_same xs i c.first_job.result 0 lt ∙ (c.first_job.ensures ∙ ap (λ o. opens (entry_of o) 0 0) (get_or_default ts i c.index-tasks-i.result None lt2))),
     )

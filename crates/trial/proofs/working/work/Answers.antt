@@ -28,12 +28,12 @@ pub loop-i-init : goal.loop-i-init
 loop-i-init c =
     let a = c.args in
     let xs = a.left.now in
-    let n = c.next-in-i.ensures in
+    let n = c.next_in-i.ensures in
     let f : ℕ → Bool = λ k. has a.active k && ltb 0 (worked a.active a.ran xs k) in (
       c.told-left,
       λ k h. sym (idle_kept a.active a.ran xs k (n.skipped k (omega arith) h)),
       λ k h. refl,
-      sym (word_next a.active 0 c.next-in-i.result n (omega arith) f (idle_off a.active a.ran xs) ∙ word_none f),
+      sym (word_next a.active 0 c.next_in-i.result n (omega arith) f (idle_off a.active a.ran xs) ∙ word_none f),
       n.within,
       n.member,
     )
@@ -44,21 +44,21 @@ loop-i-preserved c =
     let i = c.loop-i.i in
     let xs = c.loop-i.left in
     let was = a.left.now in
-    let v = c.saturating-sub-rest.result in
-    let n = c.next-in-i-in-loop-i.ensures in
-    let next = c.next-in-i-in-loop-i.result in
+    let v = c.saturating_sub-rest.result in
+    let n = c.next_in-i-in-loop-i.ensures in
+    let next = c.next_in-i-in-loop-i.result in
     let inv = c.loop-i.invariant in
     let f : ℕ → Bool = λ k. has a.active k && ltb 0 (worked a.active a.ran was k) in
     let on : has a.active i ≡ true = inv.5 c.loop-i-test.true in
     let lt : i < length xs = omega arith in
-    let is : v ≡ worked a.active a.ran was i = c.saturating-sub-rest.ensures ∙ (ap (λ l. l - (a.ran / 2 ^ i) % 2) (inv.2 i (omega arith)) ∙ sym (on_lost a.active a.ran was i on)) in
+    let is : v ≡ worked a.active a.ran was i = c.saturating_sub-rest.ensures ∙ (ap (λ l. l - (a.ran / 2 ^ i) % 2) (inv.2 i (omega arith)) ∙ sym (on_lost a.active a.ran was i on)) in
     let upto : (k : ℕ) → k < i + 1 → left_of (set xs i v) k ≡ worked a.active a.ran was k =
     below_more _ _ (λ k h. let ne : k ≢ i = omega arith in rw get_or-set_other (inv.1 k h)) (get_or-set_same xs i v 0 lt ∙ is) in
     let past : (k : ℕ) → i + 1 ≤ k → left_of (set xs i v) k ≡ left_of was k = λ k h. let ne : k ≢ i = omega arith in rw get_or-set_other (inv.2 k (omega arith)) in
     let still : c.if-rest-gt0.still ≡ word_of f (i + 1) =
     elim c.if-rest-gt0.branch [
-      | then-rest-gt0 w ↦ w.still_is ∙ word_set f i c.loop-i.still (omega arith) inv.3 (and_from (has a.active i) (ltb 0 (worked a.active a.ran was i)) on (lt-ltb 0 (worked a.active a.ran was i) (omega (arith, w.if-rest-gt0.true))))
-      | else-rest-gt0 w ↦ w.still_is ∙ word_keep f i c.loop-i.still inv.3 (and_right (has a.active i) (ltb 0 (worked a.active a.ran was i)) (le-ltb 0 (worked a.active a.ran was i) (omega (arith, w.if-rest-gt0.false))))
+      | then-rest-gt0 w ↦ w.still-is ∙ word_set f i c.loop-i.still (omega arith) inv.3 (and_from (has a.active i) (ltb 0 (worked a.active a.ran was i)) on (lt-ltb 0 (worked a.active a.ran was i) (omega (arith, w.if-rest-gt0.true))))
+      | else-rest-gt0 w ↦ w.still-is ∙ word_keep f i c.loop-i.still inv.3 (and_right (has a.active i) (ltb 0 (worked a.active a.ran was i)) (le-ltb 0 (worked a.active a.ran was i) (omega (arith, w.if-rest-gt0.false))))
     ] in (
       simp length-set inv.0,
       λ k h. ⊎_elim

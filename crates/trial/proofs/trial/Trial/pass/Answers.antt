@@ -40,8 +40,8 @@ returns-then-self-watch g c =
           };
     }
 
-pub missed-set-missed-requires : goal.missed-set-missed-requires
-missed-set-missed-requires g c =
+pub missed_set-missed-requires : goal.missed_set-missed-requires
+missed_set-missed-requires g c =
     let a = c.args.self.now in
     let b = c.tick-watch.new.self in
     let t = c.tick-watch.ensures.ticked in
@@ -61,7 +61,7 @@ returns g c =
     let b = c.tick-watch.new.self in
     let t = c.tick-watch.ensures.ticked in
     let end = c.open.new.left in
-    let missed : c.missed-set-missed.result ≡ word_of (λ i. misses (at i) (a.instant + 1) (left_of b.left i)) 32 = c.missed-set-missed.ensures ∙ ap (λ u. word_of (λ i. misses (at i) u (left_of b.left i)) 32) t.later in
+    let missed : c.missed_set-missed.result ≡ word_of (λ i. misses (at i) (a.instant + 1) (left_of b.left i)) 32 = c.missed_set-missed.ensures ∙ ap (λ u. word_of (λ i. misses (at i) u (left_of b.left i)) 32) t.later in
     record {
       passes =
           record {
@@ -77,5 +77,5 @@ returns g c =
             boundaries = record { next_kept = t.boundaries.next_kept; last_kept = t.boundaries.last_kept; saved_kept = t.boundaries.saved_kept };
             missed_is = missed ∙ missed_is key le at a b.left t.left_is;
           };
-      watched = record { calm_is = c.next-event-watch.ensures; active_is = c.active-set-watch.ensures; latest = c.renew.ensures };
+      watched = record { calm_is = c.next_event-watch.ensures; active_is = c.active_set-watch.ensures; latest = c.renew.ensures };
     }

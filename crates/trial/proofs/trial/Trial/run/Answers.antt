@@ -12,7 +12,7 @@ use Rattle.trial.proofs.trial.Trial.run.Goals as goal
 use Rattle.trial.proofs.trial.Trial.run.Goals.{then-missed-ne0+else-loop-i-test, else-missed-ne0, then-self+else-self-2, else-self-2-via-then-self-2+else-agrees, else-self-2-via-else-self-2, else-self}
 
 pub slots-init : goal.slots-init
-slots-init g c = (here, record { calm_is = λ i h v l m. absurd (omega arith); active_is = c.active-set.ensures; latest = c.latest-releases.ensures }, refl)
+slots-init g c = (here, record { calm_is = λ i h v l m. absurd (omega arith); active_is = c.active_set.ensures; latest = c.latest_releases.ensures }, refl)
 
 pub slots-preserved : goal.slots-preserved
 slots-preserved g c =

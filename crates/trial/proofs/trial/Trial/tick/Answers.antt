@@ -13,7 +13,7 @@ returns g c =
     let a = c.args.self.now in
     let w = c.args.watch.now in
     let s = c.requires.watched in
-    let ran = c.running-among-ran.ensures a.left (known_at at a.left w.active w.released a.instant s.active_is s.latest) in
+    let ran = c.running_among-ran.ensures a.left (known_at at a.left w.active w.released a.instant s.active_is s.latest) in
     let end = c.work-still.new.left in
     record {
       ticked =
@@ -23,8 +23,8 @@ returns g c =
             span_kept = refl;
             later = refl;
             ran_is = ran;
-            left_is = worked_is key le at a w.active c.running-among-ran.result end s.active_is ran c.work-still.ensures.left;
+            left_is = worked_is key le at a w.active c.running_among-ran.result end s.active_is ran c.work-still.ensures.left;
             boundaries = record { next_kept = refl; last_kept = refl; saved_kept = refl };
           };
-      still = still_is key le at a w.active c.running-among-ran.result end s.active_is ran c.work-still.ensures.left c.work-still.result c.work-still.ensures.still;
+      still = still_is key le at a w.active c.running_among-ran.result end s.active_is ran c.work-still.ensures.left c.work-still.result c.work-still.ensures.still;
     }
