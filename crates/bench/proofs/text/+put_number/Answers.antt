@@ -13,8 +13,8 @@ returns-then-n-lt10 t c =
     let r : c.args.at < length c.args.buffer.now = omega (arith, length_one c.args.n l) in
     rw (decimal_digit c.args.n l) (byte_alone c.args.at (48 + c.args.n) c.args.buffer.now r)
 
-pub put-number-last-requires : goal.put-number-last-requires
-put-number-last-requires t c =
+pub put_number-last-requires : goal.put_number-last-requires
+put_number-last-requires t c =
     let l : 10 ≤ c.args.n = omega arith in
     let f : c.args.n < 2 ^ 64 = omega arith in
     (omega arith, omega (arith, length_step c.args.n l f))
@@ -23,17 +23,17 @@ pub bounds-buffer-last : goal.bounds-buffer-last
 bounds-buffer-last t c =
     let l : 10 ≤ c.args.n = omega arith in
     let f : c.args.n < 2 ^ 64 = omega arith in
-    omega (arith, length_step c.args.n l f, c.put-number-last.ensures.upto)
+    omega (arith, length_step c.args.n l f, c.put_number-last.ensures.upto)
 
-pub overflow-add-result-2 : goal.overflow-add-result-2
-overflow-add-result-2 t c =
+pub overflow_add-result-2 : goal.overflow_add-result-2
+overflow_add-result-2 t c =
     let l : 10 ≤ c.args.n = omega arith in
     let f : c.args.n < 2 ^ 64 = omega arith in
-    omega (arith, length_step c.args.n l f, c.put-number-last.ensures.upto)
+    omega (arith, length_step c.args.n l f, c.put_number-last.ensures.upto)
 
 pub returns : goal.returns
 returns t c =
     let l : 10 ≤ c.args.n = omega arith in
     let f : c.args.n < 2 ^ 64 = omega arith in
-    let r : c.put-number-last.result < length c.put-number-last.new.buffer = omega (arith, length_step c.args.n l f, c.put-number-last.ensures.upto) in
-    rw (decimal_step c.args.n l f) (byte_more c.args.at _ c.put-number-last.result (decimal (c.args.n / 10)) c.args.buffer.now c.put-number-last.new.buffer c.put-number-last.ensures r)
+    let r : c.put_number-last.result < length c.put_number-last.new.buffer = omega (arith, length_step c.args.n l f, c.put_number-last.ensures.upto) in
+    rw (decimal_step c.args.n l f) (byte_more c.args.at _ c.put_number-last.result (decimal (c.args.n / 10)) c.args.buffer.now c.put_number-last.new.buffer c.put_number-last.ensures r)

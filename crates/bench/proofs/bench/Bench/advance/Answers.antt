@@ -5,7 +5,7 @@ use Rattle.policy.specs.Plans.{plan_of}
 use Rattle.trial.specs.Trials.{Runs}
 use Rattle.bench.proofs.Going.{running_goes_on, decided_stays, started_taken, running_taken, same_view}
 use Rattle.bench.proofs.bench.Bench.advance.Goals as goal
-use Rattle.bench.proofs.bench.Bench.advance.Goals.{in-Running, in-default}
+use Rattle.bench.proofs.bench.Bench.advance.Goals.{in-Running, in_default}
 
 pub returns : goal.returns
 returns g c =
@@ -24,9 +24,9 @@ returns g c =
             same_view d.policy b.policy d.table b.table d.mode (e.policy ∙ ap (λ s. s.policy) w.self-is) (e.table ∙ ap (λ s. s.table) w.self-is),
             c.verdict.ensures,
           )
-      | in-default w ↦ (
-        started_taken b.mode w.in-default.not-Open,
-        decided_stays (plan_of key le (entry_at b.table.tasks)) b.mode c.match-self.self.mode d.mode c.args.n c.match-self.outcome w.in-default.not-Open w.in-default.not-Running w.outcome-is (ap (λ s. s.mode) w.self-is) e.mode,
+      | in_default w ↦ (
+        started_taken b.mode w.in_default.not-Open,
+        decided_stays (plan_of key le (entry_at b.table.tasks)) b.mode c.match-self.self.mode d.mode c.args.n c.match-self.outcome w.in_default.not-Open w.in_default.not-Running w.outcome-is (ap (λ s. s.mode) w.self-is) e.mode,
         same_view d.policy b.policy d.table b.table d.mode (e.policy ∙ ap (λ s. s.policy) w.self-is) (e.table ∙ ap (λ s. s.table) w.self-is),
         c.verdict.ensures,
       )

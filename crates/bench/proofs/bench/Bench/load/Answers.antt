@@ -5,6 +5,6 @@ use Rattle.bench.proofs.bench.Bench.load.Goals as goal
 pub returns : goal.returns
 returns g c =
     record {
-      step = c.take-sheet.ensures;
-      exactly-sheets = λ open-now. takes_sheets (view c.args.self.now) open-now c.args.sheet.now c.take-sheet.result (view c.take-sheet.new.self) c.take-sheet.ensures;
+      step = c.take_sheet.ensures;
+      exactly_sheets = λ open-now. takes_sheets (view c.args.self.now) open-now c.args.sheet.now c.take_sheet.result (view c.take_sheet.new.self) c.take_sheet.ensures;
     }
