@@ -9,8 +9,7 @@ use Rattle.trial.specs.Trials.{Runs}
 use Rattle.bench.specs.declared.mode.Mode.{Mode}
 use Rattle.bench.specs.declared.mode.Mode.TheVariants.{Open, Running, Held, Missed}
 use Rattle.bench.specs.Modes.{is_started}
-use Rattle.bench.specs.Refusing.{wants_started}
-use Rattle.bench.specs.Steps.{View, Goes_on, decided}
+use Rattle.bench.specs.Steps.{View, Goes_on, decided, open_refusal}
 
 by_outcome : (p : Plan) (a b : Trial) (n : ℕ) (o : Outcome) → Runs p a n o b → Goes_on p (Running a) n (decided o (Running b))
 by_outcome p a b n Ran r = r
@@ -28,14 +27,14 @@ decided_stays p (Running a) mid after n out shut idle same there h = absurd (idl
 decided_stays p (Held a x y) mid after n out shut idle same there h = h ∙ (ap (λ o. decided o mid) same ∙ there)
 decided_stays p (Missed a i t) mid after n out shut idle same there h = h ∙ (ap (λ o. decided o mid) same ∙ there)
 
-pub started_taken : (mode : Mode) → (mode ≡ Open → ⊥) → wants_started (is_started mode) None ≡ None
+pub started_taken : (mode : Mode) → (mode ≡ Open → ⊥) → open_refusal (is_started mode) ≡ None
 started_taken Open shut = absurd (shut refl)
 started_taken (Running a) shut = refl
 started_taken (Held a x y) shut = refl
 started_taken (Missed a i t) shut = refl
 
-pub running_taken : (mode : Mode) (a : Trial) → mode ≡ Running a → wants_started (is_started mode) None ≡ None
-running_taken mode a e = ap (λ z. wants_started (is_started z) None) e
+pub running_taken : (mode : Mode) (a : Trial) → mode ≡ Running a → open_refusal (is_started mode) ≡ None
+running_taken mode a e = ap (λ z. open_refusal (is_started z)) e
 
 pub same_view : {P : Type 0} (p q : P) (s t : Table) (mode : Mode) → p ≡ q → s ≡ t → ◌≡◌ {A = View P} (record { policy = p; tasks = s.tasks; mode = mode }) (record { policy = q; tasks = t.tasks; mode = mode })
 same_view p q s t mode e f = ap₂ (λ x (y : Table). record { policy = x; tasks = y.tasks; mode = mode }) e f

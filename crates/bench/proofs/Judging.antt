@@ -23,7 +23,7 @@ use Rattle.trial.proofs.Standing.{Stands, still_running, set_now, missed_now, ag
 use Rattle.bench.specs.declared.mode.Mode.{Mode}
 use Rattle.bench.specs.declared.mode.Mode.TheVariants.{Open, Running, Held, Missed}
 use Rattle.bench.specs.declared.verdict.Verdict.{Verdict}
-use Rattle.bench.specs.Judged.{Judged, SetShown}
+use Rattle.bench.specs.Judged.{GivenRuns, none, more, SinceStart, Judged, OnlyVerdict, SetShown}
 use Rattle.bench.specs.Modes.{is_started, meaning, verdict_of, set_of}
 use Rattle.bench.specs.Steps.{Goes_on}
 
@@ -93,6 +93,13 @@ module _ {K : Type 0} (keyed : Entry → ℕ → K) (le : K → K → Bool) (tas
       let t = fresh_stands keyed le at sound m a f in
       (t.0, f.instant_is, t.1, f.early, f.short)
 
+  runs_where : (a : Mode) → Where 0 a → {n : ℕ} {b : Mode} → GivenRuns plan a n b → Where n b
+  runs_where a i none = i
+  runs_where a i (more {n} {b} {c} k r g) = goes_where n k b c (runs_where a i r) g
+
+  pub since_where : (n : ℕ) (a : Mode) → SinceStart plan at m n a → Where n a
+  since_where n a s = runs_where (Running s.trial) (fresh_where s.trial s.fresh) s.runs
+
   pub where_started : (n : ℕ) (a : Mode) → Where n a → is_started a ≡ true
   where_started n Open i = absurd i
   where_started n (Running a) i = refl
@@ -112,8 +119,18 @@ module _ {K : Type 0} (keyed : Entry → ℕ → K) (le : K → K → Bool) (tas
       record {
         instant = t.0;
         settles = t.1;
-        no_other = λ s w q. ((one_settled_verdict plan sound m n).1 s t.0 w (meaning (verdict_of a)) q t.1).1;
         promises = settled_verdicts_promise plan sound m n t.0 (meaning (verdict_of a)) t.1;
+      }
+
+  pub since_judged : (n : ℕ) (a : Mode) → SinceStart plan at m n a → Judged plan m n (verdict_of a)
+  since_judged n a s = where_judged n a (since_where n a s)
+
+  pub where_only : (n : ℕ) (a : Mode) → Where n a → OnlyVerdict plan m n (verdict_of a)
+  where_only n a i =
+      let t = settled n a i in
+      record {
+        judged = where_judged n a i;
+        no_other = λ s w q. ((one_settled_verdict plan sound m n).1 s t.0 w (meaning (verdict_of a)) q t.1).1;
       }
 
   -- where the order is total and transitive, the count of the running set is that of the jobs that ran

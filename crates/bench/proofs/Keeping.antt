@@ -15,14 +15,15 @@ use Rattle.bench.specs.declared.mode.Mode.TheVariants.{Open, Running}
 use Rattle.bench.specs.declared.verdict.Verdict.{Verdict}
 use Rattle.bench.specs.Book.{Book, blank, with_table, when_started, when_run, when_halted, foreseen, unless, NotesLoad, Notes, Kept}
 use Rattle.bench.specs.Calls.{Call, entering, withdrawing, loading, saving, starting, running_for, halting, asking_verdict, asking_set, asking_line, Answer, Log, no_calls, and_then}
-use Rattle.bench.specs.Judged.{Judged, SetShown}
+use Rattle.bench.specs.Judged.{OnlyVerdict, SetShown}
 use Rattle.bench.specs.Law.{plan_in, Right, AllRight, Lawful, Made, Law}
 use Rattle.bench.specs.Lines.{verdict_line, Writes, WritesLine}
 use Rattle.bench.specs.Modes.{is_started, verdict_of, set_of}
-use Rattle.bench.specs.Refusing.{placed, refusal, wants_open, wants_started, IsLoadFault}
-use Rattle.bench.specs.Steps.{View, with_tasks, with_mode, turned_down, New, Enters, Withdraws, Loads, Saves, Starts, Halts, TellsVerdict, TellsSet, Lines, RanFor, Goes_on, Step}
+use Rattle.bench.specs.Refusing.{placed, refusal, wants_open}
+use Rattle.bench.specs.Steps.{View, with_mode, New, start_refusal, open_refusal, IsLoadFault, Loads, Starts, Lines, RanFor, Goes_on}
+use Rattle.bench.specs.EachCall.{with_tasks, turned_down, Enters, Withdraws, Saves, Halts, TellsVerdict, TellsSet, Step}
 use Rattle.bench.proofs.Booking.{one_book}
-use Rattle.bench.proofs.Judging.{Where, goes_where, fresh_where, where_started, where_judged, where_shown}
+use Rattle.bench.proofs.Judging.{Where, goes_where, fresh_where, where_started, where_only, where_shown}
 use Rattle.bench.proofs.Placing.{placed_entries}
 
 -- a call that wants an open bench, and is taken
@@ -31,9 +32,9 @@ open_then true o e = absurd (let z : ◌≡◌ {A = ℕ} 0 1 = cc in omega arith
 open_then false o e = refl
 
 -- a call that wants a started bench, and is taken
-started_then : (started : Bool) (o : Option Refusal) → wants_started started o ≡ None → started ≡ true
-started_then true o e = refl
-started_then false o e = absurd (let z : ◌≡◌ {A = ℕ} 0 1 = cc in omega arith)
+started_then : (started : Bool) → open_refusal started ≡ None → started ≡ true
+started_then true e = refl
+started_then false e = absurd (let z : ◌≡◌ {A = ℕ} 0 1 = cc in omega arith)
 
 notes_fault : (started : Bool) (b : Book) (sheet : List ℕ) (f : LoadFault) → IsLoadFault started sheet f → NotesLoad started b sheet b
 notes_fault true b sheet f h = refl
@@ -94,8 +95,11 @@ module _ {P K : Type 0} (keyed : P → Entry → ℕ → K) (le : P → K → K 
     is_open : (o : Option Refusal) → wants_open (is_started v.mode) o ≡ None → b.started ≡ false
     is_open o h = sym started_is ∙ open_then (is_started v.mode) o h
 
-    is_on : (o : Option Refusal) → wants_started (is_started v.mode) o ≡ None → b.started ≡ true
-    is_on o h = sym started_is ∙ started_then (is_started v.mode) o h
+    is_on : open_refusal (is_started v.mode) ≡ None → b.started ≡ true
+    is_on h = sym started_is ∙ started_then (is_started v.mode) h
+
+    foreseen_start : (m : ℕ) (o : Option Refusal) → start_refusal (is_started v.mode) (entry_at v.tasks) m ≡ o → foreseen b (starting m) ≡ o
+    foreseen_start m o h = foreseen_is (starting m) o (ap (λ at. start_refusal (is_started v.mode) at m) (placed_entries v.tasks) ∙ h)
 
     -- another table on an open bench
     retabled : (u : View P) (table : List (Option Entry)) → b.started ≡ false → entries u.tasks ≡ table → u ≡ with_tasks v u.tasks → Agrees (with_table b table) u
@@ -126,11 +130,12 @@ module _ {P K : Type 0} (keyed : P → Entry → ℕ → K) (le : P → K → K 
 
     loaded : (sheet : List ℕ) (r : Result ℕ LoadFault) (u : View P) → Loads v sheet r u → Goes b (loading sheet) r u
     loaded sheet (Ok cpus) u s =
-        let e = is_open None s.0 in
+        let e = sym started_is ∙ ap is_started s.0 in
+        let same : u ≡ with_tasks v u.tasks = s.2 ∙ ap (λ mode. record { policy = v.policy; tasks = u.tasks; mode = mode }) (sym s.0) in
         let c = with_table b (entries u.tasks) in
         let N : Bool → Type 0 = λ x. NotesLoad x b sheet c in
         let n : N false = inl (cpus, entries u.tasks, s.1, refl) in
-        ((e, (entries u.tasks, s.1)), (c, subst N (sym e) n, retabled u (entries u.tasks) e refl s.2))
+        ((e, (entries u.tasks, s.1)), (c, subst N (sym e) n, retabled u (entries u.tasks) e refl same))
     loaded sheet (Err f) u s =
         let F : Bool → Type 0 = λ x. IsLoadFault x sheet f in
         let h : F b.started = subst F started_is s.0 in
@@ -144,7 +149,7 @@ module _ {P K : Type 0} (keyed : P → Entry → ℕ → K) (le : P → K → K 
 
     began : (m : ℕ) (r : Result (Unit {0}) Refusal) (u : View P) → Starts v m r u → Goes b (starting m) r u
     began m (Ok x) u s =
-        let f = foreseen_is (starting m) None s.0 in
+        let f = foreseen_start m None s.0 in
         let O : View P → Type 0 = On m 0 in
         let i : O (with_mode v (Running s.1.0)) = fresh_where (keyed policy) (le policy) v.tasks m s.1.0 s.1.1 in (
           f,
@@ -159,20 +164,20 @@ module _ {P K : Type 0} (keyed : P → Entry → ℕ → K) (le : P → K → K 
           ),
         )
     began m (Err x) u s =
-        let f = foreseen_is (starting m) (Some x) s.0 in
+        let f = foreseen_start m (Some x) s.0 in
         (f, (b, noted (Some x) (when_started b m) (starting m) f, same_agrees u s.1))
 
     -- the verdict of a bench that agrees with a book, by the book's plan
-    judged_so : (m n : ℕ) (mode : Mode) (y : Verdict) → Where (keyed policy) (le policy) v.tasks m n mode → y ≡ verdict_of mode → Judged (plan_in (keyed policy) (le policy) b) m n y
+    judged_so : (m n : ℕ) (mode : Mode) (y : Verdict) → Where (keyed policy) (le policy) v.tasks m n mode → y ≡ verdict_of mode → OnlyVerdict (plan_in (keyed policy) (le policy) b) m n y
     judged_so m n mode y i e =
-        let J : Plan → Type 0 = λ p. Judged p m n y in
-        let Y : Verdict → Type 0 = Judged (plan_of (keyed policy) (le policy) (entry_at v.tasks)) m n in
-        subst J plan_is (subst Y (sym e) (where_judged (keyed policy) (le policy) v.tasks m n mode i))
+        let J : Plan → Type 0 = λ p. OnlyVerdict p m n y in
+        let Y : Verdict → Type 0 = OnlyVerdict (plan_of (keyed policy) (le policy) (entry_at v.tasks)) m n in
+        subst J plan_is (subst Y (sym e) (where_only (keyed policy) (le policy) v.tasks m n mode i))
 
     ran : (n : ℕ) (r : Result Verdict Refusal) (u : View P) → RanFor keyed le v n r u → Goes b (running_for n) r u
     ran n (Ok y) u s =
         let f = foreseen_is (running_for n) None s.0 in
-        let e = is_on None s.0 in
+        let e = is_on s.0 in
         let G : P → Type 0 = λ q. Goes_on (plan_of (keyed q) (le q) (entry_at v.tasks)) v.mode n u.mode in
         let g : G policy = subst G a.policy_is s.1 in
         let w = goes_where (keyed policy) (le policy) v.tasks b.cpus b.slots n v.mode u.mode (stands_on b.started b.cpus b.slots v e a.stands) g in
@@ -213,13 +218,13 @@ module _ {P K : Type 0} (keyed : P → Entry → ℕ → K) (le : P → K → K 
 
     told : (r : Result Verdict Refusal) → TellsVerdict v r → Right (keyed policy) (le policy) b asking_verdict r
     told (Ok y) s =
-        let e = is_on None s.0 in
+        let e = is_on s.0 in
         (foreseen_is asking_verdict None s.0, judged_so b.cpus b.slots v.mode y (stands_on b.started b.cpus b.slots v e a.stands) s.1)
     told (Err x) s = (foreseen_is asking_verdict (Some x) s, tt)
 
     shown : (r : Result (ℕ × ℕ) Refusal) → TellsSet v r → Right (keyed policy) (le policy) b asking_set r
     shown (Ok q) s =
-        let e = is_on None s.0 in
+        let e = is_on s.0 in
         let i = stands_on b.started b.cpus b.slots v e a.stands in
         let S : Plan → Type 0 = λ p. SetShown p b.cpus b.slots q.0 q.1 in
         (foreseen_is asking_set None s.0, subst S plan_is (where_shown (keyed policy) (le policy) v.tasks b.cpus total trans b.slots v.mode i q.0 q.1 s.1 s.2))

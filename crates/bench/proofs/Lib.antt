@@ -4,6 +4,7 @@ pub mod Tabling
 pub mod Sheeting
 pub mod Going
 pub mod Judging
+pub mod Answering
 pub mod Booking
 pub mod Keeping
 pub mod Writing

@@ -10,8 +10,8 @@ use Rattle.sheet.specs.Format.{SheetOf}
 use Rattle.sheet.proofs.Single.{both_tell, tells_or_faulty, sheet_decodes}
 use Rattle.bench.specs.declared.mode.Mode.TheVariants.{Open}
 use Rattle.bench.specs.Modes.{is_started}
-use Rattle.bench.specs.Refusing.{IsLoadFault}
-use Rattle.bench.specs.Steps.{View, Loads, TakesSheets, LoadsBack}
+use Rattle.bench.specs.Steps.{View, IsLoadFault, Loads}
+use Rattle.bench.specs.EachCall.{TakesSheets, LoadsBack}
 
 module _ {P : Type 0} (v : View P) (open-now : v.mode ≡ Open) (sheet : List ℕ) where
   its_fault : (f : LoadFault) → IsLoadFault (is_started v.mode) sheet f → Decodes sheet (Err f)

@@ -11,10 +11,11 @@ use Rattle.policy.specs.Plans.{plan_of}
 use Rattle.bench.specs.declared.verdict.Verdict.{Verdict}
 use Rattle.bench.specs.Book.{Book, foreseen, Kept}
 use Rattle.bench.specs.Calls.{Call, entering, withdrawing, loading, saving, starting, running_for, halting, asking_verdict, asking_set, asking_line, Answer, Log, no_calls, and_then}
-use Rattle.bench.specs.Judged.{Judged, SetShown}
+use Rattle.bench.specs.Judged.{OnlyVerdict, SetShown}
 use Rattle.bench.specs.Lines.{verdict_line, Writes, WritesLine}
-use Rattle.bench.specs.Refusing.{placed, IsLoadFault}
-use Rattle.bench.specs.Steps.{View, New, Step}
+use Rattle.bench.specs.Refusing.{placed}
+use Rattle.bench.specs.Steps.{View, New, IsLoadFault}
+use Rattle.bench.specs.EachCall.{Step}
 
 -- the answer of a load: the CPUs that the sheet tells, or the fault
 abbrev pub LoadAnswer : (started : Bool) → (sheet : List ℕ) → Result ℕ LoadFault → Type 0
@@ -28,7 +29,7 @@ module _ {K : Type 0} (keyed : Entry → ℕ → K) (le : K → K → Bool) wher
 
   -- the verdict of n slots since the start
   abbrev pub VerdictAnswer : Book → ℕ → Result Verdict Refusal → Type 0
-  VerdictAnswer b n (Ok v) = Judged (plan_in b) b.cpus n v
+  VerdictAnswer b n (Ok v) = OnlyVerdict (plan_in b) b.cpus n v
   VerdictAnswer b n (Err e) = Unit {0}
 
   abbrev pub SetAnswer : Book → Result (ℕ × ℕ) Refusal → Type 0
@@ -48,7 +49,7 @@ module _ {K : Type 0} (keyed : Entry → ℕ → K) (le : K → K → Bool) wher
   Right b asking_verdict r = Answers (foreseen b asking_verdict) r × VerdictAnswer b b.slots r
   Right b asking_set r = Answers (foreseen b asking_set) r × SetAnswer b r
   Right b (asking_line before) r =
-      (v : Verdict) × (b.started ≡ true → Judged (plan_in b) b.cpus b.slots v)
+      (v : Verdict) × (b.started ≡ true → OnlyVerdict (plan_in b) b.cpus b.slots v)
       × WritesLine (foreseen b (asking_line before)) (verdict_line v) before r.buffer r.answer
 
   -- every answer in a log is the one that the book of the calls before it calls for

@@ -1,9 +1,10 @@
 pub mod Modes
 pub mod Lines
-pub mod Calls
-pub mod Refusing
 pub mod Steps
 pub mod Judged
+pub mod Calls
+pub mod Refusing
+pub mod EachCall
 pub mod Book
 pub mod Law
 pub mod Seen

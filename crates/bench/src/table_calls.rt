@@ -2,9 +2,10 @@ ghost use Rattle.std.specs.Prelude.{◌≡◌, take, IfOk, Ok};
 ghost use Rattle.task.specs.Tables.{entries};
 ghost use Rattle.sheet.specs.Decoding.{Decodes};
 ghost use Rattle.bench.specs.declared.mode.Mode.TheVariants.{Open};
-ghost use Rattle.bench.specs.Calls.{entering, withdrawing, loading, saving, WrittenAnswer};
+ghost use Rattle.bench.specs.Calls.{entering, withdrawing, saving, WrittenAnswer};
+ghost use Rattle.bench.specs.EachCall.{Step, TakesSheets, LoadsBack};
 ghost use Rattle.bench.specs.Seen.{view};
-ghost use Rattle.bench.specs.Steps.{New, Step, TakesSheets, LoadsBack};
+ghost use Rattle.bench.specs.Steps.{New, Loads};
 
 use crate::bench::Bench;
 use crate::mode::Mode;
@@ -50,7 +51,7 @@ impl<P: Policy> Bench<P> {
 
     /// Replaces the whole table by the sheet's.
     fn take_sheet(&mut self, sheet: &[u8]) -> Result<u8, LoadFault>
-        ensures { Step P.Policy.keyed P.Policy.precedes (view self.old) (loading sheet.now) result (view self.new) }
+        ensures { Loads (view self.old) sheet.now result (view self.new) }
     {
         let Mode::Open = self.mode else {
             return Err(LoadFault::Refused {
@@ -65,7 +66,7 @@ impl<P: Policy> Bench<P> {
 
     /// Replaces the whole table by the sheet's, and answers the sheet's CPU number.
     pub fn load(&mut self, sheet: &[u8]) -> Result<u8, LoadFault>
-        ensures step { Step P.Policy.keyed P.Policy.precedes (view self.old) (loading sheet.now) result (view self.new) }
+        ensures step { Loads (view self.old) sheet.now result (view self.new) }
         ensures exactly_sheets { self.old.mode ≡ Open → TakesSheets sheet.now result }
     {
         self.take_sheet(sheet)

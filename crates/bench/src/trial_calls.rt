@@ -1,9 +1,12 @@
-ghost use Rattle.std.specs.Prelude.{◌≡◌, ℕ};
-ghost use Rattle.bench.specs.Calls.{starting, running_for, halting, asking_verdict, asking_set, asking_line, WrittenAnswer, Log};
+ghost use Rattle.std.specs.Prelude.{◌≡◌, ℕ, ◌+◌};
+ghost use Rattle.task.specs.Tables.{entry_at};
+ghost use Rattle.bench.specs.Calls.{running_for, halting, asking_verdict, asking_set, asking_line, WrittenAnswer, Log};
+ghost use Rattle.bench.specs.EachCall.{Step};
+ghost use Rattle.bench.specs.Judged.{SinceStart, Judged, JudgedAnswer};
 ghost use Rattle.bench.specs.Law.{Made, Lawful, Law};
 ghost use Rattle.bench.specs.Modes.{is_started, verdict_of, set_of, is_decided};
 ghost use Rattle.bench.specs.Seen.{view};
-ghost use Rattle.bench.specs.Steps.{Step, Begins, decided};
+ghost use Rattle.bench.specs.Steps.{Starts, RanFor, Lines, plan_for, Begins, decided};
 
 use crate::bench::Bench;
 use crate::lines::LINE_LENGTH;
@@ -64,17 +67,16 @@ impl Mode {
 impl<P: Policy> Bench<P> {
     /// The trial that a start would put the bench into.
     fn begin(&self, cpus: u8) -> Result<Trial, Refusal>
-        ensures { Begins (is_started self.now.mode) self.now.table.tasks cpus result }
+        ensures { Begins (is_started self.now.mode) (entry_at self.now.table.tasks) cpus result }
     {
         let Mode::Open = self.mode else {
             return Err(Refusal::AlreadyStarted);
         };
         check_cpus(cpus)?;
-        let tasks = self.table.tasks();
-        if count(&tasks) == 0 {
+        if count(self.table.tasks()) == 0 {
             return Err(Refusal::NoTasks);
         }
-        match Trial::start(&tasks, cpus) {
+        match Trial::start(self.table.tasks(), cpus) {
             Some(trial) => Ok(trial),
             None => Err(Refusal::HyperperiodTooLong),
         }
@@ -82,7 +84,7 @@ impl<P: Policy> Bench<P> {
 
     /// Puts the bench at instant 0, on so many CPUs.
     pub fn start(&mut self, cpus: u8) -> Result<(), Refusal>
-        ensures { Step P.Policy.keyed P.Policy.precedes (view self.old) (starting cpus) result (view self.new) }
+        ensures { Starts (view self.old) cpus result (view self.new) }
     {
         let outcome = self.begin(cpus);
         match (outcome, &mut self.mode) {
@@ -115,11 +117,11 @@ impl<P: Policy> Bench<P> {
 
     /// Makes the slots of a run.
     fn advance(&mut self, n: u32) -> Result<Verdict, Refusal>
-        ensures { Step P.Policy.keyed P.Policy.precedes (view self.old) (running_for n) result (view self.new) }
+        ensures { RanFor P.Policy.keyed P.Policy.precedes (view self.old) n result (view self.new) }
     {
         let outcome = match &mut self.mode {
             Mode::Open => return Err(Refusal::NotStarted),
-            Mode::Running(trial) => trial.run(&self.policy, &self.table.tasks(), n),
+            Mode::Running(trial) => trial.run(&self.policy, self.table.tasks(), n),
             _ => Outcome::Ran,
         };
         self.decide(outcome);
@@ -129,7 +131,8 @@ impl<P: Policy> Bench<P> {
     /// Makes n slots, but stops at the first instant whose verdict is not "running"; none on a decided bench. Answers the
     /// verdict.
     pub fn run(&mut self, n: u32) -> Result<Verdict, Refusal>
-        ensures step { Step P.Policy.keyed P.Policy.precedes (view self.old) (running_for n) result (view self.new) }
+        ensures step { RanFor P.Policy.keyed P.Policy.precedes (view self.old) n result (view self.new) }
+        ensures judged { (m before : ℕ) → SinceStart (plan_for P.Policy.keyed P.Policy.precedes (view self.old)) (entry_at self.old.table.tasks) m before self.old.mode → JudgedAnswer (plan_for P.Policy.keyed P.Policy.precedes (view self.old)) m (before + n) result }
         ensures law { (p : P) (log : Log) → Made P.Policy.keyed P.Policy.precedes p log (view self.old) → Lawful (P.Policy.keyed p) (P.Policy.precedes p) log (running_for n) result }
     {
         self.advance(n)
@@ -188,7 +191,7 @@ impl<P: Policy> Bench<P> {
 
     /// Writes the verdict's line.
     fn write_line(&mut self, buffer: &mut [u8]) -> Result<usize, Refusal>
-        ensures step { Step P.Policy.keyed P.Policy.precedes (view self.old) (asking_line buffer.old) (record { answer = result; buffer = buffer.new }) (view self.new) }
+        ensures step { Lines (view self.old) buffer.old buffer.new result }
         ensures unchanged { self.new ≡ self.old }
     {
         if let Mode::Open = self.mode {
@@ -202,8 +205,9 @@ impl<P: Policy> Bench<P> {
 
     /// Writes the verdict's line from the buffer's beginning, and answers its length.
     pub fn line(&mut self, buffer: &mut [u8]) -> Result<usize, Refusal>
-        ensures step { Step P.Policy.keyed P.Policy.precedes (view self.old) (asking_line buffer.old) (record { answer = result; buffer = buffer.new }) (view self.new) }
+        ensures step { Lines (view self.old) buffer.old buffer.new result }
         ensures unchanged { self.new ≡ self.old }
+        ensures judged { (m n : ℕ) → SinceStart (plan_for P.Policy.keyed P.Policy.precedes (view self.old)) (entry_at self.old.table.tasks) m n self.old.mode → Judged (plan_for P.Policy.keyed P.Policy.precedes (view self.old)) m n (verdict_of self.old.mode) }
         ensures law { (p : P) (log : Log) → Made P.Policy.keyed P.Policy.precedes p log (view self.old) → Lawful (P.Policy.keyed p) (P.Policy.precedes p) log (asking_line buffer.old) (record { answer = result; buffer = buffer.new }) }
     {
         self.write_line(buffer)

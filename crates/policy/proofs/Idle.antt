@@ -1,5 +1,5 @@
 -- A job that is not in the set neither runs nor stands before another.
-use Rattle.std.proofs.Common.{◌≡◌, ℕ, Bool, true, false, cond, List, get_or, None, Option, refl, ap}
+use Rattle.std.proofs.Common.{◌≡◌, ℕ, Bool, false, cond, List, get_or, None, Option, ap}
 use Rattle.task.specs.declared.entry.Entry.{Entry}
 use Rattle.policy.specs.Dispatch.{key_at, since, set_job, ahead_of, runs_at, runs_of}
 use Rattle.policy.specs.Members.{has}

@@ -1,5 +1,5 @@
 -- What has passed since the latest release is the age.
-use Rattle.std.proofs.Common.{◌≡◌, ℕ, ◌+◌, ◌-◌, ◌*◌, ◌/◌, ◌%◌, ◌<◌, ◌≤◌, true, ltb, List, get_or, is_some, Some, None, Option, sym, refl, ap, ◌∙◌, ⊎_elim, mod-eq_of_lt, arith}
+use Rattle.std.proofs.Common.{◌≡◌, ℕ, ◌+◌, ◌-◌, ◌*◌, ◌/◌, ◌%◌, ◌<◌, ◌≤◌, true, ltb, List, get_or, is_some, Some, None, Option, sym, ap, ◌∙◌, ⊎_elim, mod-eq_of_lt, arith}
 use native.Mathlib.Nat.{add-mod, zero-mod}
 use Rattle.std.proofs.lemmas.Nat.{div-add-mod', mod_below, mod-mul-add}
 use Rattle.std.proofs.lemmas.Bool.{cases_lt, and_parts}

@@ -4,7 +4,7 @@ use native.Mathlib.Nat.{div-eq_of_lt, zero-div}
 use lib.Count.{under, count_trailing_zeros}
 use Rattle.std.proofs.lemmas.Nat.{shr-shr}
 use Rattle.std.proofs.lemmas.Bool.{cases_lt, eq-eqb, ne_eqb}
-use Rattle.policy.specs.Members.{has, NextIn}
+use Rattle.policy.specs.Members.{NextIn}
 
 -- z bits from the lowest on are 0, and the next is 1
 record Lowest (n z : ℕ) : Type 0 where

@@ -7,6 +7,15 @@ use Rattle.policy.specs.Members.{has}
 use Rattle.policy.specs.Order.{stands_before}
 use Rattle.policy.specs.Sets.{left_of, word_of}
 
+-- the key of a job with r left, where it is active
+abbrev pub job_key : {K : Type 0} → (Entry → ℕ → K) → Option Entry → (age r : ℕ) → Option K
+job_key keyed None age r = None
+job_key keyed (Some e) age r = cond (nat_lt 0 r) (Some (keyed e age)) None
+
+-- the keys of the active jobs by task number, with the jobs' ages from a list
+abbrev pub aged_job : {K : Type 0} → (Entry → ℕ → K) → (ℕ → Option Entry) → (ages left : List ℕ) → ℕ → Option K
+aged_job keyed at ages left j = job_key keyed (at j) (slice_index ages j) (left_of left j)
+
 -- the key of the job of a place at an age
 abbrev pub key_at : {K : Type 0} → (Entry → ℕ → K) → Option Entry → ℕ → Option K
 key_at keyed None age = None

@@ -1,5 +1,5 @@
 -- The plan of a table under a policy.
-use Rattle.std.specs.Prelude.{ℕ, Bool, true, false, is_some, Some, None, Option}
+use Rattle.std.specs.Prelude.{ℕ, Bool, false, is_some, Some, None, Option}
 use Rattle.schedule.specs.Plan.{Plan}
 use Rattle.task.specs.declared.entry.Entry.{Entry}
 use Rattle.policy.specs.Order.{stands_before}

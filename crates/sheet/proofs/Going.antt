@@ -4,8 +4,7 @@ use Rattle.std.proofs.lemmas.List.{flat_map_more}
 use Rattle.task.specs.declared.entry.Entry.{Entry}
 use Rattle.task.specs.declared.refusal.Refusal.{Refusal}
 use Rattle.task.specs.Rules.{cpus_refusal, entry_refusal, with_entry, no_tasks}
-use Rattle.task.specs.declared.task.Task.{Task}
-use Rattle.task.specs.Tables.{Obey, entries, table_of, Enters}
+use Rattle.task.specs.Tables.{Obey, table_of, Enters}
 use Rattle.task.proofs.Obeying.{cpus_inside, obey_more, filled_push}
 use Rattle.sheet.specs.declared.fault.LoadFault.{LoadFault}
 use Rattle.sheet.specs.declared.fault.LoadFault.TheVariants.{Refused}
@@ -36,16 +35,16 @@ breaks s rest cpus es f h o e w =
     }
 
 -- the table refused the entry
-pub entry_refused : {U : Type 0} (t t' : List (Option Task)) (e : Entry) (place : ℕ) (bytes rest : List ℕ) (r : Result U Refusal) (q : Result U Placed) (p : Placed)
-    → Enters t e t' r → AtPlace place r q → q ≡ Err p → Reads place bytes e rest → fault_at false (entries t) place bytes ≡ Some (Refused p.refusal p.place)
+pub entry_refused : {U : Type 0} (t t' : List (Option Entry)) (e : Entry) (place : ℕ) (bytes rest : List ℕ) (r : Result U Refusal) (q : Result U Placed) (p : Placed)
+    → Enters t e t' r → AtPlace place r q → q ≡ Err p → Reads place bytes e rest → fault_at false t place bytes ≡ Some (Refused p.refusal p.place)
 entry_refused t t' e place bytes rest (Ok v) q p a b h w = absurd (let z : ◌≡◌ {A = ℕ} 0 1 = cc in omega arith)
 entry_refused t t' e place bytes rest (Err x) q p a b h w =
     let f : p ≡ record { refusal = x; place = place } = cc in
-    w.judged (entries t) ∙ (ap (refused_at place) a.0 ∙ ap (λ z. Some (Refused z.refusal z.place)) (sym f))
+    w.judged t ∙ (ap (refused_at place) a.0 ∙ ap (λ z. Some (Refused z.refusal z.place)) (sym f))
 
 -- the table took it
-pub entry_taken : {U : Type 0} (t t' : List (Option Task)) (e : Entry) (place : ℕ) (r : Result U Refusal) (q : Result U Placed) (v : U)
-    → Enters t e t' r → AtPlace place r q → q ≡ Ok v → (entry_refusal (entries t) e ≡ None) × (entries t' ≡ with_entry (entries t) e)
+pub entry_taken : {U : Type 0} (t t' : List (Option Entry)) (e : Entry) (place : ℕ) (r : Result U Refusal) (q : Result U Placed) (v : U)
+    → Enters t e t' r → AtPlace place r q → q ≡ Ok v → (entry_refusal t e ≡ None) × (t' ≡ with_entry t e)
 entry_taken t t' e place (Ok w) q v a b h = a
 entry_taken t t' e place (Err x) q v a b h = absurd (let z : ◌≡◌ {A = ℕ} 0 1 = cc in omega arith)
 

@@ -76,7 +76,7 @@ fn write_sheet(table: &Table, cpus: u8, buffer: &mut [u8]) -> Result<usize, Refu
         return Err(Refusal::BufferTooShort);
     }
     let at = put(buffer, 0, &[b'C', b'P', cpus]);
-    let at = put_tasks(buffer, at, &table.tasks());
+    let at = put_tasks(buffer, at, table.tasks());
     Ok(put(buffer, at, b"EN"))
 }
 

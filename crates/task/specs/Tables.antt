@@ -95,11 +95,11 @@ Admits places e (Ok t) = (entry_refusal places e ≡ None) × (t.figures ≡ e)
 Admits places e (Err r) = entry_refusal places e ≡ Some r
 
 -- what entering does to a table, by its answer
-abbrev pub Enters : {U : Type 0} → List (Option Task) → Entry → List (Option Task) → Result U Refusal → Type 0
-Enters before e after (Ok _) = (entry_refusal (entries before) e ≡ None) × (entries after ≡ with_entry (entries before) e)
-Enters before e after (Err r) = (entry_refusal (entries before) e ≡ Some r) × (after ≡ before)
+abbrev pub Enters : {U : Type 0} → List (Option Entry) → Entry → List (Option Entry) → Result U Refusal → Type 0
+Enters before e after (Ok _) = (entry_refusal before e ≡ None) × (after ≡ with_entry before e)
+Enters before e after (Err r) = (entry_refusal before e ≡ Some r) × (after ≡ before)
 
 -- what withdrawing the task of this number does to a table, by its answer
-abbrev pub Withdraws : {U : Type 0} → List (Option Task) → ℕ → List (Option Task) → Result U Refusal → Type 0
-Withdraws before n after (Ok _) = (withdraw_refusal (entries before) n ≡ None) × (entries after ≡ without_entry (entries before) n)
-Withdraws before n after (Err r) = (withdraw_refusal (entries before) n ≡ Some r) × (after ≡ before)
+abbrev pub Withdraws : {U : Type 0} → List (Option Entry) → ℕ → List (Option Entry) → Result U Refusal → Type 0
+Withdraws before n after (Ok _) = (withdraw_refusal before n ≡ None) × (after ≡ without_entry before n)
+Withdraws before n after (Err r) = (withdraw_refusal before n ≡ Some r) × (after ≡ before)

@@ -1,4 +1,4 @@
-ghost use Rattle.std.specs.Prelude.{◌≡◌};
+ghost use Rattle.std.specs.Prelude.{◌≡◌, OnErr};
 ghost use Rattle.task.specs.Rules.{no_tasks};
 ghost use Rattle.task.specs.Tables.{entries, Admits, Enters};
 
@@ -37,9 +37,17 @@ impl Table {
         Table { tasks: [None; 32] }
     }
 
+    /// The tasks, each in the place of its number.
+    pub fn tasks(&self) -> &[Option<Task>; 32]
+        ensures { result.now ≡ self.now.tasks }
+    {
+        &self.tasks
+    }
+
     /// Takes the entry as a task, or refuses it and stays as it is.
     pub fn enter(&mut self, entry: Entry) -> Result<(), Refusal>
-        ensures { Enters self.old.tasks entry self.new.tasks result }
+        ensures enters { Enters (entries self.old.tasks) entry (entries self.new.tasks) result }
+        ensures refused { OnErr result (self.new.tasks ≡ self.old.tasks) }
     {
         let task = admit(entry, &self.tasks)?;
         self.tasks[entry.number as usize] = Some(task);

@@ -11,12 +11,3 @@ pub struct Table {
     ghost numbered: { Numbered (entries tasks) },
     ghost distinct: { Distinct (entries tasks) },
 }
-
-impl Table {
-    /// A copy of the tasks, each in the place of its number.
-    pub fn tasks(&self) -> [Option<Task>; 32]
-        ensures { result ≡ self.now.tasks }
-    {
-        self.tasks
-    }
-}

@@ -1,4 +1,5 @@
-ghost use Rattle.task.specs.Tables.{Withdraws};
+ghost use Rattle.std.specs.Prelude.{◌≡◌, OnErr};
+ghost use Rattle.task.specs.Tables.{entries, Withdraws};
 
 use crate::refusal::Refusal;
 use crate::table::Table;
@@ -6,7 +7,8 @@ use crate::table::Table;
 impl Table {
     /// Lets the task with this number go, or refuses and stays as it is.
     pub fn withdraw(&mut self, number: u8) -> Result<(), Refusal>
-        ensures { Withdraws self.old.tasks number self.new.tasks result }
+        ensures withdraws { Withdraws (entries self.old.tasks) number (entries self.new.tasks) result }
+        ensures refused { OnErr result (self.new.tasks ≡ self.old.tasks) }
     {
         if number > 31 {
             return Err(Refusal::NumberTooLarge);

@@ -1,5 +1,5 @@
 -- A count that has reached the number of CPUs stays there.
-use Rattle.std.proofs.Common.{◌≡◌, ℕ, ◌+◌, ◌-◌, ◌≤◌, Bool, true, ltb, sym, ap, ◌∙◌, arith, rules}
+use Rattle.std.proofs.Common.{◌≡◌, ℕ, ◌+◌, ◌-◌, ◌≤◌, Bool, true, sym, ◌∙◌, arith, rules}
 use borrow.Author.Rules.{get_or_read}
 use Rattle.std.proofs.lemmas.Bool.{le-ltb}
 use Rattle.schedule.specs.Counting.{count_below}

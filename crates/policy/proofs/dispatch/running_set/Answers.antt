@@ -1,7 +1,5 @@
 -- The active jobs and their ages are known, and a plan under a policy is ranked.
-use Rattle.std.proofs.Common.{◌≡◌, ℕ}
 use Rattle.task.specs.Tables.{entry_at}
-use Rattle.policy.specs.Dispatch.{Known}
 use Rattle.policy.specs.Sets.{left_of}
 use Rattle.policy.proofs.Ranks.{as_many_run}
 use Rattle.policy.proofs.Since.{known_at}

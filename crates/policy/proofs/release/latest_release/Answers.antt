@@ -1,5 +1,5 @@
 -- The age is what has passed since the latest release.
-use Rattle.std.proofs.Common.{◌≡◌, ℕ, ◌-◌, ◌%◌, Some, Option, sym, ap, ◌∙◌, subst, arith}
+use Rattle.std.proofs.Common.{◌≡◌, ℕ, ◌-◌, ◌%◌, Option, sym, ◌∙◌, subst, arith}
 use Rattle.task.specs.declared.task.Task.{Task}
 use Rattle.task.specs.Tables.{entry_of}
 use Rattle.policy.specs.Releases.{Latest, Released}

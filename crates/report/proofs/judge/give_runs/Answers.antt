@@ -10,11 +10,11 @@ loop-k-init g c = none_given g.P.Policy.keyed g.P.Policy.precedes (view c.args.b
 pub loop-k-preserved : goal.loop-k-preserved
 loop-k-preserved g c =
     let e : c.loop-k.k * 1000000 + 1000000 ≡ (c.loop-k.k + 1) * 1000000 = omega arith in
-    run_given g.P.Policy.keyed g.P.Policy.precedes (view c.args.bench.now) (view c.loop-k.bench) (view c.give-run.new.bench) (c.loop-k.k * 1000000) ((c.loop-k.k + 1) * 1000000) c.give-run.result c.loop-k.invariant c.give-run.ensures e
+    run_given g.P.Policy.keyed g.P.Policy.precedes (view c.args.bench.now) (view c.loop-k.bench) (view c.give_run.new.bench) (c.loop-k.k * 1000000) ((c.loop-k.k + 1) * 1000000) c.give_run.result c.loop-k.invariant c.give_run.ensures e
 
-pub returns-then-give-run : goal.returns-then-give-run
-returns-then-give-run g c =
-    rest_given g.P.Policy.keyed g.P.Policy.precedes (view c.args.bench.now) (view c.loop-k.bench) (view c.give-run.new.bench) (c.loop-k.k * 1000000) 1000000000 c.loop-k.invariant (omega arith) c.give-run.result c.give-run.ensures c.if-give-run.true
+pub returns-then-give_run : goal.returns-then-give_run
+returns-then-give_run g c =
+    rest_given g.P.Policy.keyed g.P.Policy.precedes (view c.args.bench.now) (view c.loop-k.bench) (view c.give_run.new.bench) (c.loop-k.k * 1000000) 1000000000 c.loop-k.invariant (omega arith) c.give_run.result c.give_run.ensures c.if-give_run.true
 
 pub returns : goal.returns
 returns g c =

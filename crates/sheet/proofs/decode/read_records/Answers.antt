@@ -28,8 +28,8 @@ returns-in_err-at_place c =
     let inv = c.loop-entry.invariant in
     let place = length c.args.bytes.now - length c.loop-entry.rest.now in
     let w = next_some place c.loop-entry.rest.now c.in_ok-entry.field-0 (c.in-Some.entry, c.in-Some.after) c.in-Some.is c.in_ok-entry.ensures in
-    let f = entry_refused c.loop-entry.table.tasks c.enter.new.self.tasks c.in-Some.entry place c.loop-entry.rest.now c.in-Some.after.now c.enter.result c.at_place.result c.in_err-at_place.field-0.0
-    c.enter.ensures c.at_place.ensures c.in_err-at_place.was w in
+    let f = entry_refused (entries c.loop-entry.table.tasks) (entries c.enter.new.self.tasks) c.in-Some.entry place c.loop-entry.rest.now c.in-Some.after.now c.enter.result c.at_place.result c.in_err-at_place.field-0.0
+    c.enter.ensures.enters c.at_place.ensures c.in_err-at_place.was w in
     rw (p.1, p.2) (inr (breaks c.args.bytes.now c.loop-entry.rest.now c.in_ok-cpus.cpus inv.0 _ c.in_ok-cpus.ensures.1 inv.1 inv.2
     (ap (λ t. fault_at false t place c.loop-entry.rest.now) (sym inv.3) ∙ f)))
 
@@ -44,6 +44,6 @@ loop-entry-preserved c =
     let inv = c.loop-entry.invariant in
     let place = length c.args.bytes.now - length c.loop-entry.rest.now in
     let w = next_some place c.loop-entry.rest.now c.in_ok-entry.field-0 (c.in-Some.entry, c.in-Some.after) c.in-Some.is c.in_ok-entry.ensures in
-    let a = entry_taken c.loop-entry.table.tasks c.enter.new.self.tasks c.in-Some.entry place c.enter.result c.at_place.result c.in_ok-at_place.field-0 c.enter.ensures c.at_place.ensures c.in_ok-at_place.was in
+    let a = entry_taken (entries c.loop-entry.table.tasks) (entries c.enter.new.self.tasks) c.in-Some.entry place c.enter.result c.at_place.result c.in_ok-at_place.field-0 c.enter.ensures.enters c.at_place.ensures c.in_ok-at_place.was in
     let g = went_on c.args.bytes.now c.loop-entry.rest.now c.in-Some.after.now c.in_ok-cpus.cpus place inv.0 c.in-Some.entry (entries c.loop-entry.table.tasks) (entries c.enter.new.self.tasks) inv.1 inv.2 inv.3 w a.0 a.1 in
     (inv.0 ++ c.in-Some.entry ∷ [], g.0, g.1, g.2)

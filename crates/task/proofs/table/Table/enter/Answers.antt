@@ -13,7 +13,8 @@ invariant_of-self c =
 
 pub returns : goal.returns
 returns c =
-    let a = c.in_ok-task.ensures in (
-      a.0,
-      entries_set c.args.self.now.tasks c.args.entry.number c.in_ok-task.task ∙ ap (λ x. set (entries c.args.self.now.tasks) c.args.entry.number (Some x)) a.1,
-    )
+    let a = c.in_ok-task.ensures in
+    record {
+      enters = (a.0, entries_set c.args.self.now.tasks c.args.entry.number c.in_ok-task.task ∙ ap (λ x. set (entries c.args.self.now.tasks) c.args.entry.number (Some x)) a.1);
+      refused = tt;
+    }
