@@ -1,5 +1,5 @@
 -- What a run answers on a started bench.
-use Rattle.std.proofs.Common.{◌≡◌, ℕ, ◌+◌, Bool, true, Some, None, Ok, Err, Result, sym, refl, subst, arith}
+use Rattle.std.proofs.Common.{◌≡◌, ℕ, ◌+◌, Bool, Some, Ok, Err, Result, sym, subst, arith}
 use Rattle.task.specs.declared.entry.Entry.{Entry}
 use Rattle.task.specs.declared.refusal.Refusal.{Refusal}
 use Rattle.task.specs.Tables.{entry_at}
@@ -7,7 +7,7 @@ use Rattle.bench.specs.declared.mode.Mode.{Mode}
 use Rattle.bench.specs.declared.mode.Mode.TheVariants.{Open, Running, Held, Missed}
 use Rattle.bench.specs.declared.verdict.Verdict.{Verdict}
 use Rattle.bench.specs.Judged.{SinceStart, more, Judged, JudgedAnswer}
-use Rattle.bench.specs.Modes.{is_started, verdict_of}
+use Rattle.bench.specs.Modes.{is_started}
 use Rattle.bench.specs.Steps.{View, plan_for, RanFor, open_refusal}
 use Rattle.bench.proofs.Judging.{Where, since_where, since_judged}
 

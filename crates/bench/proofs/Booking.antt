@@ -1,9 +1,8 @@
 -- A log has one book, and no other.
-use Rattle.std.proofs.Common.{◌≡◌, ℕ, Bool, true, false, ◌⊎◌, List, Ok, Err, Option, sym, refl, ap, ◌∙◌, subst, inl, inr}
-use Rattle.task.specs.declared.entry.Entry.{Entry}
+use Rattle.std.proofs.Common.{◌≡◌, ℕ, Bool, true, false, List, sym, ap, ◌∙◌, subst, inl, inr}
 use Rattle.sheet.proofs.Single.{both_tell, tells_or_faulty}
 use Rattle.bench.specs.Book.{Book, with_table, NotesLoad, Notes, Kept}
-use Rattle.bench.specs.Calls.{Call, entering, withdrawing, loading, saving, starting, running_for, halting, asking_verdict, asking_set, asking_line, Answer, Log, no_calls, and_then}
+use Rattle.bench.specs.Calls.{Call, entering, withdrawing, loading, saving, starting, running_for, halting, asking_verdict, asking_set, asking_line, Log, no_calls, and_then}
 
 one_load : (started : Bool) (b : Book) (sheet : List ℕ) (c d : Book) → NotesLoad started b sheet c → NotesLoad started b sheet d → c ≡ d
 one_load true b sheet c d p q = p ∙ sym q

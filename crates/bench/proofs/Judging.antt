@@ -1,5 +1,5 @@
 -- The verdict of a started bench is that of the endless schedule.
-use Rattle.std.proofs.Common.{◌≡◌, ℕ, ◌+◌, ◌<◌, ◌≤◌, Bool, true, ◌⊎◌, List, Ok, Err, Option, Result, sym, refl, ap, ◌∙◌, subst, ⊎_elim, arith}
+use Rattle.std.proofs.Common.{◌≡◌, ℕ, ◌+◌, ◌≤◌, Bool, true, ◌⊎◌, List, Option, sym, refl, ap, ◌∙◌, subst, ⊎_elim, arith}
 use lib.Count.{ones}
 use Rattle.schedule.specs.Counting.{count_below}
 use Rattle.schedule.specs.Plan.{Plan, Sound, plain}
@@ -9,7 +9,6 @@ use Rattle.schedule.specs.Judgement.{Settles, Decided}
 use Rattle.schedule.specs.Verdict as Theory
 use Rattle.schedule.proofs.Tells.{settled_verdicts_promise, one_settled_verdict}
 use Rattle.task.specs.declared.entry.Entry.{Entry}
-use Rattle.task.specs.declared.refusal.Refusal.{Refusal}
 use Rattle.task.specs.declared.task.Task.{Task}
 use Rattle.task.specs.Tables.{entry_at}
 use Rattle.policy.specs.Plans.{plan_of}
@@ -22,7 +21,6 @@ use Rattle.trial.proofs.Tasks.{tasks_sound, tasks_small}
 use Rattle.trial.proofs.Standing.{Stands, still_running, set_now, missed_now, agreed_now, undecided_stands, never_that_late, fresh_stands}
 use Rattle.bench.specs.declared.mode.Mode.{Mode}
 use Rattle.bench.specs.declared.mode.Mode.TheVariants.{Open, Running, Held, Missed}
-use Rattle.bench.specs.declared.verdict.Verdict.{Verdict}
 use Rattle.bench.specs.Judged.{GivenRuns, none, more, SinceStart, Judged, OnlyVerdict, SetShown}
 use Rattle.bench.specs.Modes.{is_started, meaning, verdict_of, set_of}
 use Rattle.bench.specs.Steps.{Goes_on}

@@ -3,7 +3,6 @@ use Rattle.std.proofs.Common.{◌≡◌, ℕ, ◌+◌, Bool, true, false, ◌⊎
 use Rattle.std.proofs.lemmas.Bool.{both_ways}
 use Rattle.schedule.specs.Plan.{Plan}
 use Rattle.task.specs.declared.entry.Entry.{Entry}
-use Rattle.task.specs.declared.task.Task.{Task}
 use Rattle.task.specs.declared.refusal.Refusal.{Refusal}
 use Rattle.task.specs.Rules.{with_entry, without_entry}
 use Rattle.task.specs.Tables.{entry_at, entries}
@@ -16,9 +15,9 @@ use Rattle.bench.specs.declared.verdict.Verdict.{Verdict}
 use Rattle.bench.specs.Book.{Book, blank, with_table, when_started, when_run, when_halted, foreseen, unless, NotesLoad, Notes, Kept}
 use Rattle.bench.specs.Calls.{Call, entering, withdrawing, loading, saving, starting, running_for, halting, asking_verdict, asking_set, asking_line, Answer, Log, no_calls, and_then}
 use Rattle.bench.specs.Judged.{OnlyVerdict, SetShown}
-use Rattle.bench.specs.Law.{plan_in, Right, AllRight, Lawful, Made, Law}
+use Rattle.bench.specs.Law.{plan_in, Right, AllRight, Lawful, Made}
 use Rattle.bench.specs.Lines.{verdict_line, Writes, WritesLine}
-use Rattle.bench.specs.Modes.{is_started, verdict_of, set_of}
+use Rattle.bench.specs.Modes.{is_started, verdict_of}
 use Rattle.bench.specs.Refusing.{placed, refusal, wants_open}
 use Rattle.bench.specs.Steps.{View, with_mode, New, start_refusal, open_refusal, IsLoadFault, Loads, Starts, Lines, RanFor, Goes_on}
 use Rattle.bench.specs.EachCall.{with_tasks, turned_down, Enters, Withdraws, Saves, Halts, TellsVerdict, TellsSet, Step}

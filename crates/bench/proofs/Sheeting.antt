@@ -1,12 +1,10 @@
 -- Which sheets an open bench takes, and that it takes back what it saved.
-use Rattle.std.proofs.Common.{◌≡◌, ℕ, Bool, false, List, take, IfOk, Ok, Err, Option, Result, sym, refl, ap, ◌∙◌, subst}
-use Rattle.task.specs.declared.entry.Entry.{Entry}
+use Rattle.std.proofs.Common.{◌≡◌, ℕ, Bool, List, take, IfOk, Ok, Err, Option, Result, ap, subst}
 use Rattle.task.specs.declared.refusal.Refusal.{Refusal}
 use Rattle.task.specs.declared.task.Task.{Task}
 use Rattle.task.specs.Tables.{entries, table_of}
 use Rattle.sheet.specs.declared.fault.LoadFault.{LoadFault}
 use Rattle.sheet.specs.Decoding.{Decodes}
-use Rattle.sheet.specs.Format.{SheetOf}
 use Rattle.sheet.proofs.Single.{both_tell, tells_or_faulty, sheet_decodes}
 use Rattle.bench.specs.declared.mode.Mode.TheVariants.{Open}
 use Rattle.bench.specs.Modes.{is_started}

@@ -1,8 +1,8 @@
 -- How what was written goes on.
-use Rattle.std.proofs.Common.{◌≡◌, ℕ, suc, ◌+◌, ◌-◌, ◌*◌, ◌/◌, ◌%◌, ◌^◌, ◌<◌, ◌≤◌, List, [], ◌∷◌, ◌++◌, length, get_or, take, drop, set, decimal, sym, refl, ap, ◌∙◌, subst, append_assoc, add_assoc, arith, length-append, take-append-drop, drop-set-lt}
+use Rattle.std.proofs.Common.{◌≡◌, ℕ, ◌+◌, ◌/◌, ◌%◌, ◌^◌, ◌<◌, ◌≤◌, List, [], ◌∷◌, ◌++◌, length, take, set, decimal, refl, ap, ◌∙◌, append_assoc, arith, length-append, drop-set-lt}
 use Rattle.std.proofs.lemmas.List.{take_more_set}
 use Rattle.std.proofs.lemmas.Fmt.{decimal_digit, decimal_step, length-decimal-le}
-use Rattle.sheet.specs.Buffers.{Written, BeginsWith}
+use Rattle.sheet.specs.Buffers.{Written}
 
 -- one more byte after what was written
 pub byte_more : (at d end : ℕ) (ds b a : List ℕ) → Written at ds b a end → end < length a → Written at (ds ++ d ∷ []) b (set a end d) (end + 1)

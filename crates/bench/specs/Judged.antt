@@ -13,7 +13,7 @@ use Rattle.trial.specs.Trials.{Fresh}
 use Rattle.bench.specs.declared.mode.Mode.{Mode}
 use Rattle.bench.specs.declared.mode.Mode.TheVariants.{Running}
 use Rattle.bench.specs.declared.verdict.Verdict.{Verdict}
-use Rattle.bench.specs.Modes.{meaning, verdict_of}
+use Rattle.bench.specs.Modes.{meaning}
 use Rattle.bench.specs.Steps.{Goes_on}
 
 -- from where it stood at a, runs that were to make n slots in all brought the bench to b

@@ -1,5 +1,5 @@
 -- What each call answers and what it makes of the bench, for every input and every refusal.
-use Rattle.std.specs.Prelude.{◌≡◌, ℕ, Bool, true, false, cond, List, length, replicate, is_some, Some, None, Ok, Err, Option, Result, ◌==◌, nat_lt}
+use Rattle.std.specs.Prelude.{◌≡◌, ℕ, Bool, true, false, cond, List, length, is_some, Some, None, Ok, Err, Option, Result, ◌==◌, nat_lt}
 use Rattle.schedule.specs.Counting.{count_below}
 use Rattle.schedule.specs.Plan.{Plan}
 use Rattle.task.specs.declared.entry.Entry.{Entry}

@@ -1,14 +1,16 @@
 -- Four lines make a report, or the first alone.
-use Rattle.std.proofs.Common.{◌≡◌, ℕ, ◌+◌, ◌≤◌, Bool, true, false, cond, leb, List, ◌++◌, Some, None, Ok, Err, Option, sym, refl, ap, ◌∙◌, subst, arith}
+use Rattle.std.proofs.Common.{◌≡◌, ℕ, ◌≤◌, Bool, true, false, cond, leb, List, [], ◌++◌, Some, None, Ok, Err, Option, sym, refl, ap, ◌∙◌, subst, arith}
 use Rattle.std.proofs.lemmas.Bool.{both_ways, le-ltb}
 use Rattle.task.specs.declared.entry.Entry.{Entry}
-use Rattle.task.specs.declared.refusal.Refusal.{Refusal}
 use Rattle.task.specs.declared.refusal.Refusal.TheVariants.{BufferTooShort}
-use Rattle.sheet.proofs.Single.{both_tell, tells_or_faulty}
+use Rattle.sheet.specs.declared.fault.LoadFault.{LoadFault}
+use Rattle.sheet.specs.Decoding.{Answer}
+use Rattle.sheet.proofs.Single.{one_answer}
 use Rattle.bench.specs.declared.fault.Fault.{Fault}
 use Rattle.bench.specs.declared.verdict.Verdict.{Verdict}
 use Rattle.bench.specs.Lines.{verdict_line, fault_line}
-use Rattle.bench.specs.Refusing.{placed, start_refusal}
+use Rattle.bench.specs.Refusing.{placed}
+use Rattle.bench.specs.Steps.{start_refusal}
 use Rattle.sheet.specs.Buffers.{Written, BeginsWith}
 use Rattle.sheet.proofs.Writing.{text_more, from_start}
 use Rattle.policy.specs.Keys.{time_to_deadline, heavy_key, heavy_first}
@@ -16,12 +18,28 @@ use Rattle.report.specs.Reports.{rank_of, Report, verdicts, report_refusal}
 use lib.Signed.{le_z}
 use Rattle.report.specs.Prints.{Faulty, no_sheet, no_start, VerdictOfSheet, LineOfSheet, verdict, fault}
 
+-- an answer is not both a table and a fault
+not_both : {A : Type 0} (cpus : ℕ) (places : List (Option Entry)) (f : LoadFault) → ◌≡◌ {A = Answer} (Ok (cpus, places)) (Err f) → A
+not_both cpus places f e = absurd (let z : ◌≡◌ {A = ℕ} 0 1 = cc in omega arith)
+
+cpus_in : Answer → ℕ
+cpus_in (Ok q) = q.0
+cpus_in (Err f) = 0
+
+places_in : Answer → List (Option Entry)
+places_in (Ok q) = q.1
+places_in (Err f) = []
+
+same_answer : (c d : ℕ) (p q : List (Option Entry)) → ◌≡◌ {A = Answer} (Ok (c, p)) (Ok (d, q)) → (c ≡ d) × (p ≡ q)
+unfolding cpus_in places_in
+same_answer c d p q e = (ap cpus_in e, ap places_in e)
+
 -- a sheet that is judged under one policy has no fault
 never_faulty : {A K : Type 0} (keyed : Entry → ℕ → K) (le : K → K → Bool) (bytes : List ℕ) (v : Verdict) (f : Fault) → VerdictOfSheet keyed le bytes v → Faulty bytes f → A
-never_faulty keyed le bytes v f j (no_sheet {f = g} d) = tells_or_faulty bytes j.cpus j.places g j.decoded d
+never_faulty keyed le bytes v f j (no_sheet {f = g} d) = not_both j.cpus j.places g (one_answer bytes (Ok (j.cpus, j.places)) (Err g) j.decoded d)
 never_faulty keyed le bytes v f j (no_start {cpus} {places} {e} d s) =
-    let (q, r) = both_tell bytes cpus j.cpus places j.places d j.decoded in
-    let n : start_refusal (placed places) cpus ≡ None = ap (λ c. start_refusal (placed places) c) q ∙ (ap (λ (p : List (Option Entry)). start_refusal (placed p) j.cpus) r ∙ j.starts) in
+    let (q, r) = same_answer cpus j.cpus places j.places (one_answer bytes (Ok (cpus, places)) (Ok (j.cpus, j.places)) d j.decoded) in
+    let n : start_refusal false (placed places) cpus ≡ None = ap (λ c. start_refusal false (placed places) c) q ∙ (ap (λ (p : List (Option Entry)). start_refusal false (placed p) j.cpus) r ∙ j.starts) in
     absurd (let z : ◌≡◌ {A = ℕ} 0 1 = (let y : Some e ≡ None = sym s ∙ n in cc) in omega arith)
 
 module _ {K : Type 0} (keyed : Entry → ℕ → K) (le : K → K → Bool) (bytes : List ℕ) where

@@ -10,7 +10,8 @@ use Rattle.bench.specs.declared.fault.Fault.TheVariants.{Load, Start}
 use Rattle.bench.specs.declared.verdict.Verdict.{Verdict}
 use Rattle.bench.specs.Judged.{Judged}
 use Rattle.bench.specs.Lines.{verdict_line, fault_line, room_refusal}
-use Rattle.bench.specs.Refusing.{placed, start_refusal}
+use Rattle.bench.specs.Refusing.{placed}
+use Rattle.bench.specs.Steps.{start_refusal}
 use Rattle.sheet.specs.Buffers.{Written, BeginsWith}
 use Rattle.report.specs.declared.printed.Printed.{Printed}
 
@@ -18,7 +19,7 @@ use Rattle.report.specs.declared.printed.Printed.{Printed}
 pub data Faulty (bytes : List ℕ) : Fault → Type 0 where
   no_sheet : {f : LoadFault} → Decodes bytes (Err f) → Faulty bytes (Load f)
   no_start : {cpus : ℕ} {places : List (Option Entry)} {e : Refusal}
-      → Decodes bytes (Ok (cpus, places)) → start_refusal (placed places) cpus ≡ Some e → Faulty bytes (Start e)
+      → Decodes bytes (Ok (cpus, places)) → start_refusal false (placed places) cpus ≡ Some e → Faulty bytes (Start e)
 
 module _ {K : Type 0} (keyed : Entry → ℕ → K) (le : K → K → Bool) (bytes : List ℕ) where
   -- The bytes are a sheet whose table may start, and the verdict is the one that the endless schedule of that table and
@@ -27,7 +28,7 @@ module _ {K : Type 0} (keyed : Entry → ℕ → K) (le : K → K → Bool) (byt
     pub cpus : ℕ
     pub places : List (Option Entry)
     pub decoded : Decodes bytes (Ok (cpus, places))
-    pub starts : start_refusal (placed places) cpus ≡ None
+    pub starts : start_refusal false (placed places) cpus ≡ None
     pub judged : Judged (plan_of keyed le (placed places)) cpus 1000000000 v
 
   -- the line that is printed, and whether it is a fault's

@@ -1,7 +1,13 @@
-ghost use Rattle.std.specs.Prelude.{◌≡◌, ℕ};
+ghost use Rattle.std.specs.Prelude.{◌≡◌, ℕ, Some, None, Ok, Err, ◌≢◌};
+ghost use Rattle.task.specs.Tables.{entry_at, entries};
+ghost use Rattle.trial.specs.Trials.{Fresh};
+ghost use Rattle.bench.specs.declared.mode.Mode.TheVariants.{Open};
+ghost use Rattle.bench.specs.Judged.{GivenRuns};
+ghost use Rattle.bench.specs.Modes.{is_decided, verdict_of};
 ghost use Rattle.bench.specs.Seen.{view};
+ghost use Rattle.bench.specs.Steps.{plan_for, with_mode, Goes_on};
 ghost use Rattle.report.specs.Prints.{Prints};
-ghost use Rattle.report.specs.Prepares.{Prepares, GivesRun, Gives};
+ghost use Rattle.report.specs.Prepares.{Prepares};
 
 use crate::printed::Printed;
 use bench::bench::Bench;
@@ -16,9 +22,10 @@ pub const RUNS: u32 = 1_000;
 /// How many slots a run makes at most.
 pub const SLOTS: u32 = 1_000_000;
 
-/// Loads the sheet into the bench and starts it on the sheet's CPUs.
+/// Loads the sheet into an open bench and starts it on the sheet's CPUs.
 fn prepare<P: Policy>(bench: &mut Bench<P>, sheet: &[u8]) -> Result<(), Fault>
-    ensures { Prepares P.Policy.keyed P.Policy.precedes sheet.now (view bench.old) result (view bench.new) }
+    requires { bench.old.mode ≡ Open }
+    ensures { Prepares sheet.now (view bench.old) result (view bench.new) }
 {
     let cpus = bench.load(sheet)?;
     bench.start(cpus)?;
@@ -27,7 +34,8 @@ fn prepare<P: Policy>(bench: &mut Bench<P>, sheet: &[u8]) -> Result<(), Fault>
 
 /// Gives a bench one run, and answers whether no other is wanted.
 fn give_run<P: Policy>(bench: &mut Bench<P>) -> bool
-    ensures { GivesRun P.Policy.keyed P.Policy.precedes (view bench.old) (view bench.new) result }
+    ensures view { view bench.new ≡ with_mode (view bench.old) bench.new.mode }
+    ensures run { (bench.old.mode ≢ Open) → Goes_on (plan_for P.Policy.keyed P.Policy.precedes (view bench.old)) bench.old.mode 1000000 bench.new.mode × (result ≡ is_decided (verdict_of bench.new.mode)) }
 {
     match bench.run(SLOTS) {
         Ok(verdict) => verdict.is_decided(),
@@ -37,7 +45,8 @@ fn give_run<P: Policy>(bench: &mut Bench<P>) -> bool
 
 /// Gives a started bench its runs, and stops when it is decided.
 fn give_runs<P: Policy>(bench: &mut Bench<P>)
-    ensures { Gives P.Policy.keyed P.Policy.precedes 1000000000 (view bench.old) (view bench.new) }
+    ensures view { view bench.new ≡ with_mode (view bench.old) bench.new.mode }
+    ensures runs { (bench.old.mode ≢ Open) → GivenRuns (plan_for P.Policy.keyed P.Policy.precedes (view bench.old)) bench.old.mode 1000000000 bench.new.mode }
 {
     for k in 0..RUNS {
         if give_run(bench) {

@@ -1,5 +1,5 @@
 -- From the latest release to the next: which instants are releases and deadlines.
-use Rattle.std.proofs.Common.{◌≡◌, ℕ, ◌+◌, ◌-◌, ◌%◌, ◌<◌, ◌≤◌, Bool, true, false, ◌&&◌, eqb, leb, Some, sym, refl, ap, ◌∙◌, ⊎_elim, arith}
+use Rattle.std.proofs.Common.{◌≡◌, ℕ, ◌+◌, ◌-◌, ◌%◌, ◌<◌, ◌≤◌, true, false, ◌&&◌, eqb, leb, Some, sym, ap, ◌∙◌, ⊎_elim, arith}
 use native.Mathlib.Nat.{add-mod_right}
 use Rattle.std.proofs.lemmas.Bool.{cases_lt, cases_eq, cases_Bool, and_from, and_parts, and_right, le-leb, lt-leb, leb-true, eqb-true, eq-eqb, ne_eqb}
 use Rattle.task.specs.declared.entry.Entry.{Entry}

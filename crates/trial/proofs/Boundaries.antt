@@ -1,5 +1,5 @@
 -- How a slot ends: which jobs miss, and whether the new instant is a boundary.
-use Rattle.std.proofs.Common.{◌≡◌, ℕ, ◌+◌, ◌/◌, ◌%◌, ◌^◌, ◌<◌, Bool, true, false, sym, refl, ap, ◌∙◌, subst, ⊎_elim, arith}
+use Rattle.std.proofs.Common.{◌≡◌, ℕ, ◌+◌, ◌/◌, ◌%◌, ◌^◌, ◌<◌, Bool, true, false, sym, ap, ◌∙◌, subst, ⊎_elim, arith}
 use native.Mathlib.Nat.{zero-div}
 use Rattle.std.proofs.lemmas.Bool.{cases_Bool}
 use Rattle.schedule.specs.Plan.{Plan}
@@ -7,7 +7,7 @@ use Rattle.policy.specs.Sets.{bit, left_of, word_of}
 use Rattle.policy.proofs.Words.{word_bit}
 use Rattle.trial.specs.declared.trial.Trial.{Trial}
 use Rattle.trial.specs.Slots.{Passes, Marked}
-use Rattle.trial.specs.Trials.{NonePasses, Lowest, Equal, Moved, Between, Passed, Repeated, missing}
+use Rattle.trial.specs.Trials.{NonePasses, Lowest, Equal, Moved, Between, Passed, Repeated}
 
 bit_is : (test : ℕ → Bool) (word i : ℕ) → word ≡ word_of test 32 → i < 32 → (word / 2 ^ i) % 2 ≡ bit (test i)
 bit_is test word i e h = ap (λ w. (w / 2 ^ i) % 2) e ∙ word_bit test 32 i h

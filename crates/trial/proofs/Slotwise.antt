@@ -3,7 +3,7 @@ use Rattle.std.proofs.Common.{◌≡◌, ℕ, ◌+◌, ◌-◌, ◌<◌, ◌≤�
 use Rattle.std.proofs.lemmas.Bool.{ltb-true, lt-ltb}
 use Rattle.schedule.specs.Plan.{Plan, plain}
 use Rattle.schedule.specs.Counting.{count_below}
-use Rattle.schedule.specs.Schedule.{deadline_at, opened, has_cpu, stands_ahead}
+use Rattle.schedule.specs.Schedule.{opened, has_cpu, stands_ahead}
 use Rattle.task.specs.declared.entry.Entry.{Entry}
 use Rattle.policy.specs.Plans.{plan_of, time_of}
 use Rattle.policy.specs.Dispatch.{is_active}

@@ -1,10 +1,10 @@
 -- A trial that was started and is undecided stands on the endless schedule, and what decides it decides the schedule.
-use Rattle.std.proofs.Common.{◌≡◌, ℕ, suc, ◌+◌, ◌-◌, ◌*◌, ◌<◌, ◌≤◌, Bool, true, false, cond, ◌&&◌, eqb, ltb, ◌⊎◌, Option, sym, refl, ap, ◌∙◌, subst, inl, inr, ⊎_elim, mul-le-mul, add-one, arith}
+use Rattle.std.proofs.Common.{◌≡◌, ℕ, suc, ◌+◌, ◌-◌, ◌*◌, ◌<◌, ◌≤◌, Bool, true, eqb, ltb, ◌⊎◌, Option, sym, refl, ap, ◌∙◌, subst, ⊎_elim, mul-le-mul, add-one, arith}
 use Rattle.std.proofs.lemmas.Bool.{both_ways, cases_lt, cases_order, cases_eq, and_parts, and_from, ltb-true, lt-ltb, eq-eqb, ne_eqb, cond-true, cond-false}
 use Rattle.schedule.specs.Plan.{Plan, Sound, Way, plain, whole_time}
 use Rattle.schedule.specs.Hyperperiod.{last_offset, hyperperiod}
 use Rattle.schedule.specs.Schedule.{deadline_at, opened, has_cpu, slot, left, config, Misses, boundary, Agree}
-use Rattle.schedule.specs.Verdict.{FirstMiss, FirstAgreement, NoMissBy, Fixes, Missed, Holds, Running}
+use Rattle.schedule.specs.Verdict.{FirstMiss, NoMissBy, Fixes, Missed, Holds, Running}
 use Rattle.schedule.proofs.Grows.{next_boundary}
 use Rattle.schedule.proofs.Hyperperiods.{hyperperiod_positive}
 use Rattle.schedule.proofs.Same.{has_cpu_same, slot_same, left_next, left_first}
@@ -18,7 +18,7 @@ use Rattle.trial.specs.declared.trial.Trial.{Trial}
 use Rattle.trial.specs.declared.trial.Outcome.TheVariants.{Ran, Missed as Miss, Agreed}
 use Rattle.trial.specs.Places.{opens}
 use Rattle.trial.specs.Judged.{LastSet}
-use Rattle.trial.specs.Trials.{NonePasses, Equal, Fresh, after_slot, missing, Moved, Passed, Between, Repeated, CameTo, Undecided, here, on}
+use Rattle.trial.specs.Trials.{NonePasses, Equal, Fresh, after_slot, missing, Moved, Passed, Between, CameTo, Undecided, here, on}
 
 module _ {K : Type 0} (keyed : Entry → ℕ → K) (le : K → K → Bool) (at : ℕ → Option Entry) (sound : Sound (plan_of keyed le at)) (m : ℕ) where
   abbrev plan : Plan

@@ -1,7 +1,7 @@
 -- The plan of a table of tasks is sound, since every task keeps its bounds, and its jobs need little time together.
-use Rattle.std.proofs.Common.{◌≡◌, ℕ, ◌<◌, ◌≤◌, Bool, true, false, cond, List, get_or, is_some, Some, None, Option, sym, refl, arith}
+use Rattle.std.proofs.Common.{◌≡◌, ℕ, ◌≤◌, Bool, true, false, cond, List, get_or, is_some, Some, None, Option, sym, refl, arith}
 use Rattle.std.proofs.lemmas.Bool.{both_ways}
-use Rattle.schedule.specs.Plan.{Plan, Sound, whole_time}
+use Rattle.schedule.specs.Plan.{Sound, whole_time}
 use Rattle.schedule.proofs.Sums.{sum_bounded}
 use Rattle.task.specs.declared.entry.Entry.{Entry}
 use Rattle.task.specs.declared.task.Task.{Task}

@@ -1,6 +1,5 @@
-use Rattle.std.proofs.Common.{◌≡◌, ℕ, ◌+◌, ◌/◌, ◌%◌, ◌^◌, ◌<◌, ◌≤◌, List, length, set, decimal, sym, subst, arith, rules}
+use Rattle.std.proofs.Common.{◌+◌, ◌/◌, ◌^◌, ◌<◌, ◌≤◌, length, decimal, arith}
 use Rattle.std.proofs.lemmas.Fmt.{decimal_digit, decimal_step}
-use Rattle.sheet.specs.Buffers.{Written}
 use Rattle.bench.proofs.Writing.{byte_more, byte_alone, length_step, length_one}
 use Rattle.bench.proofs.text.+put_number.Goals as goal
 

@@ -1,5 +1,5 @@
-use Rattle.std.proofs.Common.{◌≡◌, ◌+◌, ◌-◌, ◌≤◌, ◌++◌, length, take, refl, ap, ◌∙◌, arith, rules}
-use Rattle.std.proofs.lemmas.Slice.{take-put_mid, drop-put_mid, overwrites}
+use Rattle.std.proofs.Common.{refl, rules}
+use Rattle.std.proofs.lemmas.Slice.{overwrites}
 use Rattle.bench.proofs.text.put.Goals as goal
 
 pub returns : goal.returns

@@ -1,4 +1,4 @@
-use Rattle.std.proofs.Common.{length, arith}
+use Rattle.std.proofs.Common.{arith}
 use Rattle.sheet.proofs.Writing.{text_more, from_start}
 use Rattle.bench.proofs.text.put_two.Goals as goal
 

@@ -1,22 +1,55 @@
-use Rattle.std.proofs.Common.{◌≡◌, ◌+◌, ◌*◌, subst, arith}
+use Rattle.std.proofs.Common.{◌≡◌, ◌+◌, ◌*◌, sym, refl, ◌∙◌, subst, arith}
+use Rattle.schedule.specs.Plan.{Plan}
+use Rattle.bench.specs.Judged.{GivenRuns, none, more}
 use Rattle.bench.specs.Seen.{view}
-use Rattle.report.specs.Prepares.{Gives}
-use Rattle.report.proofs.Giving.{none_given, run_given, rest_given}
+use Rattle.bench.specs.Steps.{plan_for, Goes_on}
+use Rattle.report.proofs.Giving.{stays_started, given_rest, same_but_mode, same_plan}
 use Rattle.report.proofs.judge.give_runs.Goals as goal
 
 pub loop-k-init : goal.loop-k-init
-loop-k-init g c = none_given g.P.Policy.keyed g.P.Policy.precedes (view c.args.bench.now)
+loop-k-init g c = (refl, λ shut. (none, shut))
 
 pub loop-k-preserved : goal.loop-k-preserved
 loop-k-preserved g c =
-    let e : c.loop-k.k * 1000000 + 1000000 ≡ (c.loop-k.k + 1) * 1000000 = omega arith in
-    run_given g.P.Policy.keyed g.P.Policy.precedes (view c.args.bench.now) (view c.loop-k.bench) (view c.give_run.new.bench) (c.loop-k.k * 1000000) ((c.loop-k.k + 1) * 1000000) c.give_run.result c.loop-k.invariant c.give_run.ensures e
+    let key = g.P.Policy.keyed in
+    let le = g.P.Policy.precedes in
+    let v = view c.args.bench.now in
+    let w = view c.loop-k.bench in
+    let u = view c.give_run.new.bench in
+    let same = c.loop-k.invariant.0 in (
+      same_but_mode key le v w u same c.give_run.ensures.view,
+      λ shut.
+          let i = c.loop-k.invariant.1 shut in
+          let e = c.give_run.ensures.run i.1 in
+          let G : Plan → Type 0 = λ p. Goes_on p w.mode 1000000 u.mode in
+          let s : G (plan_for key le v) = subst G (same_plan key le v w same) e.0 in
+          let q : c.loop-k.k * 1000000 + 1000000 ≡ (c.loop-k.k + 1) * 1000000 = omega arith in
+          (subst (λ n. GivenRuns (plan_for key le v) v.mode n u.mode) q (more 1000000 i.0 s), stays_started (plan_for key le v) w.mode u.mode 1000000 s),
+    )
 
 pub returns-then-give_run : goal.returns-then-give_run
 returns-then-give_run g c =
-    rest_given g.P.Policy.keyed g.P.Policy.precedes (view c.args.bench.now) (view c.loop-k.bench) (view c.give_run.new.bench) (c.loop-k.k * 1000000) 1000000000 c.loop-k.invariant (omega arith) c.give_run.result c.give_run.ensures c.if-give_run.true
+    let key = g.P.Policy.keyed in
+    let le = g.P.Policy.precedes in
+    let v = view c.args.bench.now in
+    let w = view c.loop-k.bench in
+    let u = view c.give_run.new.bench in
+    let same = c.loop-k.invariant.0 in
+    record {
+      view = same_but_mode key le v w u same c.give_run.ensures.view;
+      runs =
+          λ shut.
+          let i = c.loop-k.invariant.1 shut in
+          let e = c.give_run.ensures.run i.1 in
+          let G : Plan → Type 0 = λ p. Goes_on p w.mode 1000000 u.mode in
+          let s : G (plan_for key le v) = subst G (same_plan key le v w same) e.0 in
+          given_rest (plan_for key le v) v.mode u.mode (c.loop-k.k * 1000000 + 1000000) 1000000000 (omega arith) (sym e.1 ∙ c.if-give_run.true) (more 1000000 i.0 s);
+    }
 
 pub returns : goal.returns
 returns g c =
     let e : c.loop-k.k * 1000000 ≡ 1000000000 = omega arith in
-    subst (λ n. Gives g.P.Policy.keyed g.P.Policy.precedes n (view c.args.bench.now) (view c.loop-k.bench)) e c.loop-k.invariant
+    record {
+      view = c.loop-k.invariant.0;
+      runs = λ shut. subst (λ n. GivenRuns (plan_for g.P.Policy.keyed g.P.Policy.precedes (view c.args.bench.now)) c.args.bench.now.mode n c.loop-k.bench.mode) e (c.loop-k.invariant.1 shut).0;
+    }

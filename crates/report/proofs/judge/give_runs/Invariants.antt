@@ -1,7 +1,11 @@
-use Rattle.std.proofs.Common.{◌*◌}
+use Rattle.std.proofs.Common.{◌≡◌, ◌*◌}
+use Rattle.bench.specs.declared.mode.Mode.TheVariants.{Open}
+use Rattle.bench.specs.Judged.{GivenRuns}
 use Rattle.bench.specs.Seen.{view}
-use Rattle.report.specs.Prepares.{Gives}
+use Rattle.bench.specs.Steps.{plan_for, with_mode}
 use Rattle.report.proofs.judge.give_runs.Given as goal
 
 abbrev pub invariant-loop-k : goal.invariant-loop-k
-invariant-loop-k g l = Gives g.P.Policy.keyed g.P.Policy.precedes (l.k * 1000000) (view l.initial.bench) (view l.bench)
+invariant-loop-k g l =
+    (view l.bench ≡ with_mode (view l.initial.bench) l.bench.mode)
+    × ((l.initial.bench.mode ≡ Open → ⊥) → GivenRuns (plan_for g.P.Policy.keyed g.P.Policy.precedes (view l.initial.bench)) l.initial.bench.mode (l.k * 1000000) l.bench.mode × (l.bench.mode ≡ Open → ⊥))

@@ -1,13 +1,10 @@
-use Rattle.std.proofs.Common.{◌≡◌, ℕ, ◌+◌, ◌≤◌, Bool, ltb, leb, List, length, Some, None, sym, refl, ap, ◌∙◌, subst, zero-add, arith}
+use Rattle.std.proofs.Common.{ℕ, leb, length, sym, subst, zero-add, arith}
 use lib.Signed.{le_z}
-use Rattle.std.proofs.lemmas.Bool.{le-ltb}
-use Rattle.task.specs.declared.entry.Entry.{Entry}
-use Rattle.task.specs.declared.refusal.Refusal.TheVariants.{BufferTooShort}
 use Rattle.policy.specs.Keys.{time_to_deadline, heavy_key, heavy_first}
 use Rattle.sheet.specs.Buffers.{Written}
 use Rattle.sheet.proofs.Writing.{from_start}
 use Rattle.report.specs.Prints.{LineOfSheet}
-use Rattle.report.specs.Reports.{rank_of, Report, fault, report_refusal}
+use Rattle.report.specs.Reports.{rank_of, Report, fault}
 use Rattle.report.proofs.Reporting.{first_verdict, first_fault, other_verdict, four_lines, roomy}
 use Rattle.report.proofs.report.report.Goals as goal
 

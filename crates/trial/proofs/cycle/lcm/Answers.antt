@@ -1,4 +1,4 @@
-use Rattle.std.proofs.Common.{◌≡◌, ℕ, ◌<◌, sym, subst}
+use Rattle.std.proofs.Common.{ℕ, ◌<◌, sym, subst}
 use Rattle.schedule.proofs.Multiples.{gcd_positive}
 use Rattle.trial.proofs.cycle.lcm.Goals as goal
 

@@ -1,7 +1,7 @@
 use Rattle.std.proofs.Common.{◌≡◌, ℕ, ◌<◌, ◌≤◌, length, get_or, Some, None, Option, sym, refl, subst, arith, rules, below_more}
 use Rattle.std.proofs.lemmas.List.{get_or_default}
 use Rattle.task.specs.declared.task.Task.{Task}
-use Rattle.task.specs.Tables.{entry_of, entry_at}
+use Rattle.task.specs.Tables.{entry_of}
 use Rattle.trial.specs.Places.{Calm}
 use Rattle.trial.proofs.events.next_event.Goals as goal
 use Rattle.trial.proofs.events.next_event.Goals.{in-Some+then-next-event, in-Some+else-next-event, in-None}

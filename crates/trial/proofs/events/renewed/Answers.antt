@@ -1,4 +1,4 @@
-use Rattle.std.proofs.Common.{◌≡◌, ◌-◌, Option, sym, subst, arith}
+use Rattle.std.proofs.Common.{◌-◌, Option, sym, subst, arith}
 use Rattle.task.specs.declared.task.Task.{Task}
 use Rattle.task.specs.Tables.{entry_of}
 use Rattle.policy.specs.Releases.{Latest, Released}

@@ -1,4 +1,4 @@
-use Rattle.std.proofs.Common.{◌≡◌, ◌-◌, eqb, ap, ◌∙◌, arith}
+use Rattle.std.proofs.Common.{◌-◌, eqb, ap, ◌∙◌, arith}
 use Rattle.trial.proofs.Ages.{due_past}
 use Rattle.trial.proofs.opening.is_deadline.Goals as goal
 

@@ -1,4 +1,4 @@
-use Rattle.std.proofs.Common.{◌≡◌, ◌-◌, eqb, ap, ◌∙◌, arith}
+use Rattle.std.proofs.Common.{◌-◌, eqb, ap, ◌∙◌, arith}
 use Rattle.trial.proofs.Ages.{release_past}
 use Rattle.trial.proofs.opening.is_release.Goals as goal
 

@@ -1,4 +1,4 @@
-use Rattle.std.proofs.Common.{◌≡◌, ◌<◌, ◌≢◌, length, get_or, None, ap, ◌∙◌, arith, length-set, get_or-set_other, get_or-set_same, rules, below_more}
+use Rattle.std.proofs.Common.{◌<◌, ◌≢◌, length, None, ap, ◌∙◌, arith, length-set, get_or-set_other, get_or-set_same, rules, below_more}
 use Rattle.std.proofs.lemmas.List.{get_or_default}
 use Rattle.task.specs.Tables.{entry_of}
 use Rattle.trial.specs.Places.{opens}

@@ -1,4 +1,4 @@
-use Rattle.std.proofs.Common.{◌≡◌, List, Option, sym, ap, ◌∙◌, subst}
+use Rattle.std.proofs.Common.{List, Option, ap, ◌∙◌, subst}
 use Rattle.task.specs.declared.task.Task.{Task}
 use Rattle.task.specs.Tables.{entry_at}
 use Rattle.policy.specs.Plans.{plan_of}

@@ -1,4 +1,4 @@
-use Rattle.std.proofs.Common.{◌≡◌, ℕ, ◌+◌, ◌-◌, ◌<◌, get_or, sym, refl, ap, ◌∙◌, subst, arith}
+use Rattle.std.proofs.Common.{◌≡◌, ℕ, ◌+◌, ◌-◌, ◌<◌, get_or, sym, ap, ◌∙◌, subst, arith}
 use Rattle.task.specs.Tables.{entry_at}
 use Rattle.policy.specs.Releases.{Latest}
 use Rattle.policy.specs.Sets.{left_of, word_of}

@@ -1,4 +1,4 @@
-use Rattle.std.proofs.Common.{◌≡◌, cond, eqb, sym, refl, ◌∙◌, arith}
+use Rattle.std.proofs.Common.{◌≡◌, cond, eqb, sym, refl, ◌∙◌}
 use Rattle.std.proofs.lemmas.Bool.{eq-eqb, ne_eqb, cond-true, cond-false}
 use Rattle.trial.proofs.trial.Trial.start.Goals as goal
 use Rattle.trial.proofs.trial.Trial.start.Goals.{then-start-eq0, else-start-eq0}
