@@ -4,8 +4,8 @@
 usage: python3 tools/respell.py [FOLDER]     the top of the repository (default: this folder)
 
 Of each name with a dash or a question mark that a file of specs/ or proofs/ defines (a signature, a record's field, a
-constructor), a name with a capital becomes camel case (Never-misses: NeverMisses), any other snake case (has-cpu: has_cpu),
-and a question mark at the end becomes a word (right?: right_test). Names that Rattle makes of the code (goals, steps) stay,
+constructor), a name with a capital becomes camel case (Never-misses: NeverMisses; Goes_on: GoesOn), any other snake case
+(has-cpu: has_cpu), and a question mark at the end becomes a word (right?: right_test). Names that Rattle makes of the code (goals, steps) stay,
 and so do names that a file takes from a library, functions of src/, strings and comments.
 It says which names fall together, and then changes nothing.
 """
@@ -31,7 +31,7 @@ def respelled(name):
     if name.endswith("?"):
         name = name[:-1] + "-test"
     if name[0].isupper():
-        return "".join(part[0].upper() + part[1:] for part in name.split("-") if part)
+        return "".join(part[0].upper() + part[1:] for part in re.split("[-_]", name) if part)
     return name.replace("-", "_")
 
 
@@ -56,7 +56,7 @@ def own_names(paths):
                 continue
             if GOAL.match(m["type"]):
                 goals.add(m["name"])
-            elif "-" in m["name"].strip("-") or m["name"].endswith("?"):
+            elif "-" in m["name"].strip("-") or m["name"].endswith("?") or (m["name"][0].isupper() and "_" in m["name"]):
                 names.add(m["name"])
     return names - goals
 

@@ -9,19 +9,19 @@ use Rattle.trial.specs.Trials.{Runs}
 use Rattle.bench.specs.declared.mode.Mode.{Mode}
 use Rattle.bench.specs.declared.mode.Mode.TheVariants.{Open, Running, Held, Missed}
 use Rattle.bench.specs.Modes.{is_started}
-use Rattle.bench.specs.Steps.{View, Goes_on, decided, open_refusal}
+use Rattle.bench.specs.Steps.{View, GoesOn, decided, open_refusal}
 
-by_outcome : (p : Plan) (a b : Trial) (n : ℕ) (o : Outcome) → Runs p a n o b → Goes_on p (Running a) n (decided o (Running b))
+by_outcome : (p : Plan) (a b : Trial) (n : ℕ) (o : Outcome) → Runs p a n o b → GoesOn p (Running a) n (decided o (Running b))
 by_outcome p a b n Ran r = r
 by_outcome p a b n (Miss i) r = (r, refl)
 by_outcome p a b n (Agreed x y) r = r
 
-pub running_goes_on : (p : Plan) (before mid after : Mode) (a b : Trial) (n : ℕ) (o out : Outcome) → before ≡ Running a → Runs p a n o b → out ≡ o → mid ≡ Running b → after ≡ decided out mid → Goes_on p before n after
+pub running_goes_on : (p : Plan) (before mid after : Mode) (a b : Trial) (n : ℕ) (o out : Outcome) → before ≡ Running a → Runs p a n o b → out ≡ o → mid ≡ Running b → after ≡ decided out mid → GoesOn p before n after
 running_goes_on p before mid after a b n o out was r same there h =
     let e : after ≡ decided o (Running b) = h ∙ (ap (λ x. decided x mid) same ∙ ap (decided o) there) in
-    subst (λ z. Goes_on p z n after) (sym was) (subst (Goes_on p (Running a) n) (sym e) (by_outcome p a b n o r))
+    subst (λ z. GoesOn p z n after) (sym was) (subst (GoesOn p (Running a) n) (sym e) (by_outcome p a b n o r))
 
-pub decided_stays : (p : Plan) (before mid after : Mode) (n : ℕ) (out : Outcome) → (before ≡ Open → ⊥) → ((a : Trial) → before ≡ Running a → ⊥) → out ≡ Ran → mid ≡ before → after ≡ decided out mid → Goes_on p before n after
+pub decided_stays : (p : Plan) (before mid after : Mode) (n : ℕ) (out : Outcome) → (before ≡ Open → ⊥) → ((a : Trial) → before ≡ Running a → ⊥) → out ≡ Ran → mid ≡ before → after ≡ decided out mid → GoesOn p before n after
 decided_stays p Open mid after n out shut idle same there h = absurd (shut refl)
 decided_stays p (Running a) mid after n out shut idle same there h = absurd (idle a refl)
 decided_stays p (Held a x y) mid after n out shut idle same there h = h ∙ (ap (λ o. decided o mid) same ∙ there)

@@ -23,7 +23,7 @@ use Rattle.bench.specs.declared.mode.Mode.{Mode}
 use Rattle.bench.specs.declared.mode.Mode.TheVariants.{Open, Running, Held, Missed}
 use Rattle.bench.specs.Judged.{GivenRuns, none, more, SinceStart, Judged, OnlyVerdict, SetShown}
 use Rattle.bench.specs.Modes.{is_started, meaning, verdict_of, set_of}
-use Rattle.bench.specs.Steps.{Goes_on}
+use Rattle.bench.specs.Steps.{GoesOn}
 
 module _ {K : Type 0} (keyed : Entry → ℕ → K) (le : K → K → Bool) (tasks : List (Option Task)) (m : ℕ) where
   abbrev at : ℕ → Option Entry
@@ -45,7 +45,7 @@ module _ {K : Type 0} (keyed : Entry → ℕ → K) (le : K → K → Bool) (tas
   abbrev sound : Sound plan
   sound = tasks_sound keyed le tasks
 
-  pub goes_where : (n k : ℕ) (a b : Mode) → Where n a → Goes_on plan a k b → Where (n + k) b
+  pub goes_where : (n k : ℕ) (a b : Mode) → Where n a → GoesOn plan a k b → Where (n + k) b
   goes_where n k Open b i r = absurd i
   goes_where n k (Running a) Open i r = absurd r
   goes_where n k (Running a) (Running b) i r =

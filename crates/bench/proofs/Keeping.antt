@@ -19,7 +19,7 @@ use Rattle.bench.specs.Law.{plan_in, Right, AllRight, Lawful, Made}
 use Rattle.bench.specs.Lines.{verdict_line, Writes, WritesLine}
 use Rattle.bench.specs.Modes.{is_started, verdict_of}
 use Rattle.bench.specs.Refusing.{placed, refusal, wants_open}
-use Rattle.bench.specs.Steps.{View, with_mode, New, start_refusal, open_refusal, IsLoadFault, Loads, Starts, Lines, RanFor, Goes_on}
+use Rattle.bench.specs.Steps.{View, with_mode, New, start_refusal, open_refusal, IsLoadFault, Loads, Starts, Lines, RanFor, GoesOn}
 use Rattle.bench.specs.EachCall.{with_tasks, turned_down, Enters, Withdraws, Saves, Halts, TellsVerdict, TellsSet, Step}
 use Rattle.bench.proofs.Booking.{one_book}
 use Rattle.bench.proofs.Judging.{Where, goes_where, fresh_where, where_started, where_only, where_shown}
@@ -177,7 +177,7 @@ module _ {P K : Type 0} (keyed : P → Entry → ℕ → K) (le : P → K → K 
     ran n (Ok y) u s =
         let f = foreseen_is (running_for n) None s.0 in
         let e = is_on s.0 in
-        let G : P → Type 0 = λ q. Goes_on (plan_of (keyed q) (le q) (entry_at v.tasks)) v.mode n u.mode in
+        let G : P → Type 0 = λ q. GoesOn (plan_of (keyed q) (le q) (entry_at v.tasks)) v.mode n u.mode in
         let g : G policy = subst G a.policy_is s.1 in
         let w = goes_where (keyed policy) (le policy) v.tasks b.cpus b.slots n v.mode u.mode (stands_on b.started b.cpus b.slots v e a.stands) g in
         let O : View P → Type 0 = On b.cpus (b.slots + n) in

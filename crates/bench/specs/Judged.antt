@@ -14,12 +14,12 @@ use Rattle.bench.specs.declared.mode.Mode.{Mode}
 use Rattle.bench.specs.declared.mode.Mode.TheVariants.{Running}
 use Rattle.bench.specs.declared.verdict.Verdict.{Verdict}
 use Rattle.bench.specs.Modes.{meaning}
-use Rattle.bench.specs.Steps.{Goes_on}
+use Rattle.bench.specs.Steps.{GoesOn}
 
 -- from where it stood at a, runs that were to make n slots in all brought the bench to b
 pub data GivenRuns (p : Plan) (a : Mode) : ℕ → Mode → Type 0 where
   none : GivenRuns p a 0 a
-  more : {n : ℕ} {b c : Mode} (k : ℕ) → GivenRuns p a n b → Goes_on p b k c → GivenRuns p a (n + k) c
+  more : {n : ℕ} {b c : Mode} (k : ℕ) → GivenRuns p a n b → GoesOn p b k c → GivenRuns p a (n + k) c
 
 -- the bench was started on m CPUs with the table `at`, and its runs since then were to make n slots in all
 pub record SinceStart (p : Plan) (at : ℕ → Option Entry) (m n : ℕ) (mode : Mode) : Type 0 where

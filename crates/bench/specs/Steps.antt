@@ -54,14 +54,14 @@ line_refusal false room = Some NotStarted
 
 -- A started bench goes on by n slots: a trial by the slots of the endless schedule, up to the first instant that decides; a
 -- decided bench makes none.
-abbrev pub Goes_on : Plan → Mode → ℕ → Mode → Type 0
-Goes_on p Open n b = ⊥
-Goes_on p (Running a) n Open = ⊥
-Goes_on p (Running a) n (Running b) = Runs p a n Ran b
-Goes_on p (Running a) n (Held b first second) = Runs p a n (Agreed first second) b
-Goes_on p (Running a) n (Missed b task instant) = Runs p a n (Miss task) b × (instant ≡ b.instant)
-Goes_on p (Held a first second) n b = b ≡ Held a first second
-Goes_on p (Missed a task instant) n b = b ≡ Missed a task instant
+abbrev pub GoesOn : Plan → Mode → ℕ → Mode → Type 0
+GoesOn p Open n b = ⊥
+GoesOn p (Running a) n Open = ⊥
+GoesOn p (Running a) n (Running b) = Runs p a n Ran b
+GoesOn p (Running a) n (Held b first second) = Runs p a n (Agreed first second) b
+GoesOn p (Running a) n (Missed b task instant) = Runs p a n (Miss task) b × (instant ≡ b.instant)
+GoesOn p (Held a first second) n b = b ≡ Held a first second
+GoesOn p (Missed a task instant) n b = b ≡ Missed a task instant
 
 -- the fault of a load that is refused
 abbrev pub IsLoadFault : (started : Bool) → List ℕ → LoadFault → Type 0
@@ -116,6 +116,6 @@ module _ {P K : Type 0} (keyed : P → Entry → ℕ → K) (le : P → K → K 
   -- a run makes slots and answers the verdict
   abbrev pub RanFor : View P → ℕ → Result Verdict Refusal → View P → Type 0
   RanFor v n (Ok y) u =
-      (open_refusal (is_started v.mode) ≡ None) × Goes_on (plan_for v) v.mode n u.mode
+      (open_refusal (is_started v.mode) ≡ None) × GoesOn (plan_for v) v.mode n u.mode
       × (u ≡ with_mode v u.mode) × (y ≡ verdict_of u.mode)
   RanFor v n (Err e) u = (open_refusal (is_started v.mode) ≡ Some e) × (u ≡ v)

@@ -1,6 +1,6 @@
 -- A row by one test that computes, and the rows of a table one after the other.
 use Rattle.std.proofs.Common.{◌≡◌, ℕ, zero, suc, ◌*◌, ◌<◌, ◌≤◌, Bool, true, false, not, ◌&&◌, eqb, ltb, leb, List, [], ◌∷◌, length, get_or, is_some, sym, refl, ap, ◌∙◌, mul_comm, mul-le-mul, mul-pos, zero-mul, arith}
-use Rattle.std.specs.List.{AllByRecursion as All}
+use Rattle.std.specs.List.{AllByRecursion}
 use Rattle.std.proofs.lemmas.Bool.{and_parts, leb-true, ltb-true, eqb-true, lt-ltb, le-ltb}
 use Rattle.schedule.specs.Plan.{Plan, plain}
 use Rattle.schedule.specs.Schedule.{has_cpu, config}
@@ -100,6 +100,6 @@ abbrev pub all_right_test : List Row → Bool
 all_right_test [] = true
 all_right_test (r ∷ rs) = right_test r && all_right_test rs
 
-pub all_right_so : (rs : List Row) → all_right_test rs ≡ true → All Right rs
+pub all_right_so : (rs : List Row) → all_right_test rs ≡ true → AllByRecursion Right rs
 all_right_so [] e = tt
 all_right_so (r ∷ rs) e = let (f, g) = and_parts (right_test r) (all_right_test rs) e in (right_so r f, all_right_so rs g)

@@ -1,6 +1,6 @@
 -- The table of worked examples.
 use Rattle.std.specs.Prelude.{ℕ, ◌+◌, true, false, List, [], ◌∷◌}
-use Rattle.std.specs.List.{AllByRecursion as All}
+use Rattle.std.specs.List.{AllByRecursion}
 use Rattle.schedule.specs.Verdict.{Missed, Holds, Running}
 use Rattle.task.specs.declared.entry.Entry.{Entry}
 use Rattle.examples.specs.Policies.{Deadline, Rank, HeavyFirstOver}
@@ -79,4 +79,4 @@ rows =
 
 -- Every worked example is right.
 abbrev pub AllRight : Type 0
-AllRight = All Right rows
+AllRight = AllByRecursion Right rows

@@ -9,10 +9,10 @@ use Rattle.bench.specs.declared.mode.Mode.TheVariants.{Open, Running, Held, Miss
 use Rattle.bench.specs.declared.verdict.Verdict.{Verdict}
 use Rattle.bench.specs.Judged.{GivenRuns, more}
 use Rattle.bench.specs.Modes.{is_started, verdict_of, is_decided}
-use Rattle.bench.specs.Steps.{View, with_mode, plan_for, Goes_on, RanFor, open_refusal}
+use Rattle.bench.specs.Steps.{View, with_mode, plan_for, GoesOn, RanFor, open_refusal}
 
 -- a run leaves no bench open
-pub stays_started : (p : Plan) (a b : Mode) (k : ℕ) → Goes_on p a k b → b ≡ Open → ⊥
+pub stays_started : (p : Plan) (a b : Mode) (k : ℕ) → GoesOn p a k b → b ≡ Open → ⊥
 stays_started p Open b k g e = g
 stays_started p (Running a) Open k g e = g
 stays_started p (Running a) (Running b) k g e = let z : ◌≡◌ {A = ℕ} 0 1 = cc in omega arith
@@ -21,7 +21,7 @@ stays_started p (Running a) (Missed b x y) k g e = let z : ◌≡◌ {A = ℕ} 0
 stays_started p (Held a x y) b k g e = let z : ◌≡◌ {A = ℕ} 0 1 = cc in omega arith
 stays_started p (Missed a x y) b k g e = let z : ◌≡◌ {A = ℕ} 0 1 = cc in omega arith
 
-stays : (p : Plan) (b : Mode) (k : ℕ) → is_decided (verdict_of b) ≡ true → Goes_on p b k b
+stays : (p : Plan) (b : Mode) (k : ℕ) → is_decided (verdict_of b) ≡ true → GoesOn p b k b
 stays p Open k e = absurd (both_ways false refl e)
 stays p (Running a) k e = absurd (both_ways false refl e)
 stays p (Held a x y) k e = refl

@@ -5,7 +5,7 @@ ghost use Rattle.bench.specs.declared.mode.Mode.TheVariants.{Open};
 ghost use Rattle.bench.specs.Judged.{GivenRuns};
 ghost use Rattle.bench.specs.Modes.{is_decided, verdict_of};
 ghost use Rattle.bench.specs.Seen.{view};
-ghost use Rattle.bench.specs.Steps.{plan_for, with_mode, Goes_on};
+ghost use Rattle.bench.specs.Steps.{plan_for, with_mode, GoesOn};
 ghost use Rattle.report.specs.Prints.{Prints};
 ghost use Rattle.report.specs.Prepares.{Prepares};
 
@@ -35,7 +35,7 @@ fn prepare<P: Policy>(bench: &mut Bench<P>, sheet: &[u8]) -> Result<(), Fault>
 /// Gives a bench one run, and answers whether no other is wanted.
 fn give_run<P: Policy>(bench: &mut Bench<P>) -> bool
     ensures view { view bench.new ≡ with_mode (view bench.old) bench.new.mode }
-    ensures run { (bench.old.mode ≢ Open) → Goes_on (plan_for P.Policy.keyed P.Policy.precedes (view bench.old)) bench.old.mode 1000000 bench.new.mode × (result ≡ is_decided (verdict_of bench.new.mode)) }
+    ensures run { (bench.old.mode ≢ Open) → GoesOn (plan_for P.Policy.keyed P.Policy.precedes (view bench.old)) bench.old.mode 1000000 bench.new.mode × (result ≡ is_decided (verdict_of bench.new.mode)) }
 {
     match bench.run(SLOTS) {
         Ok(verdict) => verdict.is_decided(),

@@ -2,7 +2,7 @@ use Rattle.std.proofs.Common.{◌≡◌, ◌+◌, ◌*◌, sym, refl, ◌∙◌,
 use Rattle.schedule.specs.Plan.{Plan}
 use Rattle.bench.specs.Judged.{GivenRuns, none, more}
 use Rattle.bench.specs.Seen.{view}
-use Rattle.bench.specs.Steps.{plan_for, Goes_on}
+use Rattle.bench.specs.Steps.{plan_for, GoesOn}
 use Rattle.report.proofs.Giving.{stays_started, given_rest, same_but_mode, same_plan}
 use Rattle.report.proofs.judge.give_runs.Goals as goal
 
@@ -21,7 +21,7 @@ loop-k-preserved g c =
       λ shut.
           let i = c.loop-k.invariant.1 shut in
           let e = c.give_run.ensures.run i.1 in
-          let G : Plan → Type 0 = λ p. Goes_on p w.mode 1000000 u.mode in
+          let G : Plan → Type 0 = λ p. GoesOn p w.mode 1000000 u.mode in
           let s : G (plan_for key le v) = subst G (same_plan key le v w same) e.0 in
           let q : c.loop-k.k * 1000000 + 1000000 ≡ (c.loop-k.k + 1) * 1000000 = omega arith in
           (subst (λ n. GivenRuns (plan_for key le v) v.mode n u.mode) q (more 1000000 i.0 s), stays_started (plan_for key le v) w.mode u.mode 1000000 s),
@@ -41,7 +41,7 @@ returns-then-give_run g c =
           λ shut.
           let i = c.loop-k.invariant.1 shut in
           let e = c.give_run.ensures.run i.1 in
-          let G : Plan → Type 0 = λ p. Goes_on p w.mode 1000000 u.mode in
+          let G : Plan → Type 0 = λ p. GoesOn p w.mode 1000000 u.mode in
           let s : G (plan_for key le v) = subst G (same_plan key le v w same) e.0 in
           given_rest (plan_for key le v) v.mode u.mode (c.loop-k.k * 1000000 + 1000000) 1000000000 (omega arith) (sym e.1 ∙ c.if-give_run.true) (more 1000000 i.0 s);
     }
