@@ -13,9 +13,9 @@ use Rattle.bench.specs.Refusing.{wants_open}
 use Rattle.bench.specs.Steps.{View}
 use Rattle.bench.specs.EachCall.{with_tasks, Enters, Withdraws, Saves}
 
-module _ {P : Type 0} (v : View P) (open-now : v.mode ≡ Open) where
+module _ {P : Type 0} (v : View P) (open_now : v.mode ≡ Open) where
   as_table : (o : Option Refusal) → wants_open (is_started v.mode) o ≡ o
-  as_table o = ap (λ mode. wants_open (is_started mode) o) open-now
+  as_table o = ap (λ mode. wants_open (is_started mode) o) open_now
 
   pub entered_so : (tasks : List (Option Task)) (e : Entry) (r : Result (Unit {0}) Refusal)
       → Tables.Enters (entries v.tasks) e (entries tasks) r → OnErr r (tasks ≡ v.tasks) → Enters v e r (with_tasks v tasks)

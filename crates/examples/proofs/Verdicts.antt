@@ -121,14 +121,14 @@ module _ (p : Plan) (m n s : ℕ) (fits : n ≤ p.tasks) (none : (i : ℕ) → n
       let (et, rest2) = and_parts _ _ rest1 in
       let (em, rest3) = and_parts _ _ rest2 in
       let (ec, el) = and_parts _ _ rest3 in
-      let by-now : t ≤ s = leb-true t s et in (
+      let by_now : t ≤ s = leb-true t s et in (
         record {
           task = ltb-true i p.tasks ei;
-          misses = miss_so t i by-now em;
+          misses = miss_so t i by_now em;
           none_earlier = λ j u _ l. calm_so u (omega arith) (at_each t (calm_test p n h) ec u l) j;
-          none_lower = λ j l. no_miss t j by-now (at_each i (λ j. not (miss_test p h t j)) el j l);
+          none_lower = λ j l. no_miss t j by_now (at_each i (λ j. not (miss_test p h t j)) el j l);
         },
-        by-now,
+        by_now,
       )
 
   running_so : (u : ℕ) → running_test p m n h s u ≡ true → Fixes p (plain p m) s (Running u)

@@ -68,13 +68,13 @@ count_same n a b h = le_antisymm (count_mono n a b (λ i l e. sym (h i l) ∙ e)
 -- what passes the one test passes the other, and j passes only the other
 pub count_lt : (n : ℕ) (a b : ℕ → Bool) (j : ℕ) → j < n → ((i : ℕ) → i < n → a i ≡ true → b i ≡ true) → a j ≡ false → b j ≡ true → count_below n a < count_below n b
 unfolding sum_below
-count_lt zero a b j l h no-a yes-b = absurd (omega arith)
-count_lt (suc n) a b j l h no-a yes-b =
+count_lt zero a b j l h no_a yes_b = absurd (omega arith)
+count_lt (suc n) a b j l h no_a yes_b =
     ⊎_elim
-    (λ (k : j < n). omega (arith, one_mono (a n) (b n) (h n (omega arith)), count_lt n a b j k (λ i q. h i (omega arith)) no-a yes-b))
+    (λ (k : j < n). omega (arith, one_mono (a n) (b n) (h n (omega arith)), count_lt n a b j k (λ i q. h i (omega arith)) no_a yes_b))
     (λ (k : n ≤ j).
     let e : n ≡ j = omega arith in
-    omega (arith, cond-false {A = ℕ} (a n) 1 0 (ap a e ∙ no-a), cond-true {A = ℕ} (b n) 1 0 (ap b e ∙ yes-b), count_mono n a b (λ i q. h i (omega arith))))
+    omega (arith, cond-false {A = ℕ} (a n) 1 0 (ap a e ∙ no_a), cond-true {A = ℕ} (b n) 1 0 (ap b e ∙ yes_b), count_mono n a b (λ i q. h i (omega arith))))
     (cases_lt j n)
 
 -- a longer count is no less

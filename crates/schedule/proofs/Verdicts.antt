@@ -44,8 +44,8 @@ module _ (p : Plan) (w : Way) where
           ⊎_elim
           (λ (late : s < boundary p (suc f.0)).
           (Running s, (none, (λ k h a. ⊎_elim (λ (b : k < f.0). f.3 k b a) (λ (g : f.0 ≤ k). omega (arith, boundary_mono p (suc f.0) (suc k) (omega arith))) (cases_lt k f.0)), refl)))
-          (λ (by-now : boundary p (suc f.0) ≤ s).
-          (Holds (boundary p f.0) (boundary p (suc f.0)), (none, (f.0, record { agree = f.2; none_earlier = f.3 }, refl, refl, by-now))))
+          (λ (by_now : boundary p (suc f.0) ≤ s).
+          (Holds (boundary p f.0) (boundary p (suc f.0)), (none, (f.0, record { agree = f.2; none_earlier = f.3 }, refl, refl, by_now))))
           (cases_lt s (boundary p (suc f.0)))
       quiet none (inr never) = (Running s, (none, (λ k h a. never k (omega (arith, boundary_past p ok k)) a), refl))
 

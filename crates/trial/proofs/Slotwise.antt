@@ -39,17 +39,17 @@ module _ {K : Type 0} (keyed : Entry → ℕ → K) (le : K → K → Bool) (at 
   plan = plan_of keyed le at
 
   -- each job of the running set lost 1, and the others that are active are active still
-  module _ (on ran : ℕ) (end : List ℕ) (on-is : on ≡ word_of (is_active at a.left) 32) (ran_is : ran ≡ word_of (has_cpu plan a.cpus a.instant (left_of a.left)) 32) (w : (i : ℕ) → i < 32 → left_of end i ≡ worked on ran a.left i) where
+  module _ (on ran : ℕ) (end : List ℕ) (on_is : on ≡ word_of (is_active at a.left) 32) (ran_is : ran ≡ word_of (has_cpu plan a.cpus a.instant (left_of a.left)) 32) (w : (i : ℕ) → i < 32 → left_of end i ≡ worked on ran a.left i) where
     pub worked_is : (i : ℕ) → i < 32 → left_of end i ≡ after_slot plan a i
     worked_is i h =
         w i h
         ∙ ap (λ b. cond b (left_of a.left i - 1) (left_of a.left i))
-        (ap₂ ◌&&◌ (word_has (is_active at a.left) on i on-is h) (word_has (has_cpu plan a.cpus a.instant (left_of a.left)) ran i ran_is h)
+        (ap₂ ◌&&◌ (word_has (is_active at a.left) on i on_is h) (word_has (has_cpu plan a.cpus a.instant (left_of a.left)) ran i ran_is h)
         ∙ both_again (is_some (at i)) (ltb 0 (left_of a.left i)) (ltb (count_below 32 (stands_ahead plan a.instant (left_of a.left) i)) a.cpus))
 
     still_one : (i : ℕ) → i < 32 → (has on i && ltb 0 (worked on ran a.left i)) ≡ is_active at end i
     still_one i h =
-        ap₂ (λ x r. x && ltb 0 r) (word_has (is_active at a.left) on i on-is h) (sym (w i h))
+        ap₂ (λ x r. x && ltb 0 r) (word_has (is_active at a.left) on i on_is h) (sym (w i h))
         ∙ thinner (is_some (at i)) (ltb 0 (left_of a.left i)) (ltb 0 (left_of end i))
         (λ e. lt-ltb 0 (left_of a.left i) (omega (arith, ltb-true 0 (left_of end i) e, w i h, no_more (has on i && has ran i) (left_of a.left i))))
 

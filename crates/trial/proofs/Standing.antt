@@ -142,8 +142,8 @@ module _ {K : Type 0} (keyed : Entry → ℕ → K) (le : K → K → Bool) (at 
         passed : Passed a b → Stands b
         passed x =
             let s : 0 < hyperperiod plan = positive in
-            let now-at : boundary plan k.laps ≡ b.instant = omega (arith, k.next_is, x.reached, b_at) in
-            let at_j : (j : ℕ) → suc k.laps ≡ suc j → boundary plan j ≡ b.instant = λ j e. let q : j ≡ k.laps = omega arith in ap (boundary plan) q ∙ now-at in
+            let now_at : boundary plan k.laps ≡ b.instant = omega (arith, k.next_is, x.reached, b_at) in
+            let at_j : (j : ℕ) → suc k.laps ≡ suc j → boundary plan j ≡ b.instant = λ j e. let q : j ≡ k.laps = omega arith in ap (boundary plan) q ∙ now_at in
             record {
               cpus_is = mv.cpus_kept ∙ k.cpus_is;
               start_is = mv.start_kept ∙ k.start_is;
@@ -190,7 +190,7 @@ module _ {K : Type 0} (keyed : Entry → ℕ → K) (le : K → K → Bool) (at 
     pub agreed_now : (x y : ℕ) → CameTo plan a b (Agreed x y) → Fixes plan way b.instant (Holds x y)
     agreed_now x y told =
         let r = told.1 in
-        let some-lap : k.laps ≡ 0 → ⊥ = λ z. let q : a.next ≡ boundary plan 0 = k.next_is ∙ ap (boundary plan) z in omega (arith, k.start_is, r.second) in
+        let some_lap : k.laps ≡ 0 → ⊥ = λ z. let q : a.next ≡ boundary plan 0 = k.next_is ∙ ap (boundary plan) z in omega (arith, k.start_is, r.second) in
         let e : k.laps ≡ suc (k.laps - 1) = omega arith in
         let q : boundary plan (suc (k.laps - 1)) ≡ suc a.instant = ap (boundary plan) (sym e) ∙ (sym k.next_is ∙ (r.reached ∙ add-one a.instant)) in (
           (λ i t hi h. quiet_now told.0 i t hi (omega (arith, b_at))),

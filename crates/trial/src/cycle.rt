@@ -1,6 +1,6 @@
 ghost use Rattle.std.specs.Prelude.{◌≡◌, ℕ, ◌<◌, ◌≤◌, Bool, cond, is_some, Some, None};
 ghost use Rattle.schedule.specs.Counting.{count_below};
-ghost use Rattle.schedule.specs.Hyperperiod.{gcd as greatest-divisor, lcm as least-multiple};
+ghost use Rattle.schedule.specs.Hyperperiod.{gcd as greatest_divisor, lcm as least_multiple};
 ghost use Rattle.task.specs.Tables.{entry_of, entry_at};
 ghost use Rattle.trial.specs.Cycles.{period_or_one, table_offset, table_period};
 
@@ -11,7 +11,7 @@ pub const LONGEST_HYPERPERIOD: u32 = 10_000_000;
 
 /// The greatest common divisor.
 fn gcd(a: u32, b: u32) -> u32
-    ensures { result ≡ greatest-divisor a b }
+    ensures { result ≡ greatest_divisor a b }
 {
     let mut x = a;
     let mut y = b;
@@ -26,7 +26,7 @@ fn gcd(a: u32, b: u32) -> u32
 /// The least common multiple, unless it is above the longest hyperperiod.
 fn lcm(a: u32, b: u32) -> Option<u32>
     requires { (0 < a) × (0 < b) }
-    ensures { elim result [ None ↦ 10000000 < least-multiple a b | Some l ↦ (l ≡ least-multiple a b) × (l ≤ 10000000) ] }
+    ensures { elim result [ None ↦ 10000000 < least_multiple a b | Some l ↦ (l ≡ least_multiple a b) × (l ≤ 10000000) ] }
 {
     let multiple = (a / gcd(a, b)) as u64 * b as u64;
     if multiple > LONGEST_HYPERPERIOD as u64 {

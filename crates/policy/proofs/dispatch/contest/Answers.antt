@@ -79,6 +79,6 @@ returns-then-found-cpus g c left known =
     let le = p.precedes a.policy.now in
     let at = entry_at a.tasks.now in
     let f = runs_of le (set_job key at a.jobs a.released.now a.instant) a.cpus in
-    let plan-set = set_by_ages key le at left a.jobs a.released.now a.cpus a.instant known in
-    let most : count_below 32 f ≤ a.cpus = omega (arith, word_ones f 32, as_many_run key le (laws.total a.policy.now) (laws.transitive a.policy.now) at a.cpus a.instant (left_of left) (word_of f 32) plan-set) in
-    c.loop-i.invariant.0 ∙ (sym (word_found f a.cpus c.loop-i.i (omega arith) most (omega arith)) ∙ plan-set)
+    let plan_set = set_by_ages key le at left a.jobs a.released.now a.cpus a.instant known in
+    let most : count_below 32 f ≤ a.cpus = omega (arith, word_ones f 32, as_many_run key le (laws.total a.policy.now) (laws.transitive a.policy.now) at a.cpus a.instant (left_of left) (word_of f 32) plan_set) in
+    c.loop-i.invariant.0 ∙ (sym (word_found f a.cpus c.loop-i.i (omega arith) most (omega arith)) ∙ plan_set)

@@ -22,6 +22,6 @@ returns-in_err-start g c =
     let q = c.in_err-start.ensures in
     let r = c.in_ok-cpus.ensures.step in
     let ts = c.load.new.self.table.tasks in
-    let open-now = ap (λ v. is_started v.mode) r.2 in
+    let open_now = ap (λ v. is_started v.mode) r.2 in
     let S : (ℕ → Option Entry) → Type 0 = λ at. start_refusal false at c.in_ok-cpus.cpus ≡ Some c.in_err-start.field-0.0 in
-    rw (p.1, p.2) (no_start r.1 (subst S (sym (placed_entries ts)) (ap (λ b. start_refusal b (entry_at ts) c.in_ok-cpus.cpus) (sym open-now) ∙ q.0)))
+    rw (p.1, p.2) (no_start r.1 (subst S (sym (placed_entries ts)) (ap (λ b. start_refusal b (entry_at ts) c.in_ok-cpus.cpus) (sym open_now) ∙ q.0)))

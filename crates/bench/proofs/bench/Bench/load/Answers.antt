@@ -6,5 +6,5 @@ pub returns : goal.returns
 returns g c =
     record {
       step = c.take_sheet.ensures;
-      exactly_sheets = λ open-now. takes_sheets (view c.args.self.now) open-now c.args.sheet.now c.take_sheet.result (view c.take_sheet.new.self) c.take_sheet.ensures;
+      exactly_sheets = λ open_now. takes_sheets (view c.args.self.now) open_now c.args.sheet.now c.take_sheet.result (view c.take_sheet.new.self) c.take_sheet.ensures;
     }
