@@ -1,4 +1,4 @@
--- What each call answers and what it makes of the bench, for every input and every refusal.
+-- What a bench is, and what new, load, start, run and line answer and make of it, for every input and every refusal.
 use Rattle.std.specs.Prelude.{◌≡◌, ℕ, Bool, true, false, cond, List, length, is_some, Some, None, Ok, Err, Option, Result, ◌==◌, nat_lt}
 use Rattle.schedule.specs.Counting.{count_below}
 use Rattle.schedule.specs.Plan.{Plan}
