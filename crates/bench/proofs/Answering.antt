@@ -1,5 +1,5 @@
 -- What a run answers on a started bench.
-use Rattle.std.proofs.Common.{◌≡◌, ℕ, ◌+◌, Bool, Some, Ok, Err, Result, sym, subst, arith}
+use Rattle.std.proofs.Common.{◌≡◌, ℕ, ◌+◌, Bool, Some, Ok, Err, Result, sym, subst}
 use Rattle.task.specs.declared.entry.Entry.{Entry}
 use Rattle.task.specs.declared.refusal.Refusal.{Refusal}
 use Rattle.task.specs.Tables.{entry_at}
@@ -14,9 +14,9 @@ use Rattle.bench.proofs.Judging.{Where, since_where, since_judged}
 module _ {P K : Type 0} (keyed : P → Entry → ℕ → K) (le : P → K → K → Bool) (v : View P) where
   never_open : {A : Type 0} (n : ℕ) (mode : Mode) (m : ℕ) (e : Refusal) → Where (keyed v.policy) (le v.policy) v.tasks m n mode → open_refusal (is_started mode) ≡ Some e → A
   never_open n Open m e i h = absurd i
-  never_open n (Running a) m e i h = absurd (let z : ◌≡◌ {A = ℕ} 0 1 = cc in omega arith)
-  never_open n (Held a x y) m e i h = absurd (let z : ◌≡◌ {A = ℕ} 0 1 = cc in omega arith)
-  never_open n (Missed a x y) m e i h = absurd (let z : ◌≡◌ {A = ℕ} 0 1 = cc in omega arith)
+  never_open n (Running a) m e i h = absurd (cc)
+  never_open n (Held a x y) m e i h = absurd (cc)
+  never_open n (Missed a x y) m e i h = absurd (cc)
 
   pub run_judged : (n : ℕ) (r : Result Verdict Refusal) (u : View P) → RanFor keyed le v n r u
       → (m before : ℕ) → SinceStart (plan_for keyed le v) (entry_at v.tasks) m before v.mode → JudgedAnswer (plan_for keyed le v) m (before + n) r

@@ -1,5 +1,5 @@
 -- A bench agrees with the book of its log, call by call; so that its answers are those that the book calls for.
-use Rattle.std.proofs.Common.{◌≡◌, ℕ, ◌+◌, Bool, true, false, ◌⊎◌, List, Some, None, Ok, Err, Option, Result, sym, refl, ap, ◌∙◌, subst, ap₂, inl, inr, arith}
+use Rattle.std.proofs.Common.{◌≡◌, ℕ, ◌+◌, Bool, true, false, ◌⊎◌, List, Some, None, Ok, Err, Option, Result, sym, refl, ap, ◌∙◌, subst, ap₂, inl, inr}
 use Rattle.std.proofs.lemmas.Bool.{both_ways}
 use Rattle.schedule.specs.Plan.{Plan}
 use Rattle.task.specs.declared.entry.Entry.{Entry}
@@ -27,13 +27,13 @@ use Rattle.bench.proofs.Placing.{placed_entries}
 
 -- a call that wants an open bench, and is taken
 open_then : (started : Bool) (o : Option Refusal) → wants_open started o ≡ None → started ≡ false
-open_then true o e = absurd (let z : ◌≡◌ {A = ℕ} 0 1 = cc in omega arith)
+open_then true o e = absurd (cc)
 open_then false o e = refl
 
 -- a call that wants a started bench, and is taken
 started_then : (started : Bool) → open_refusal started ≡ None → started ≡ true
 started_then true e = refl
-started_then false e = absurd (let z : ◌≡◌ {A = ℕ} 0 1 = cc in omega arith)
+started_then false e = absurd (cc)
 
 notes_fault : (started : Bool) (b : Book) (sheet : List ℕ) (f : LoadFault) → IsLoadFault started sheet f → NotesLoad started b sheet b
 notes_fault true b sheet f h = refl

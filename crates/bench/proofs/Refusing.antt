@@ -1,5 +1,5 @@
 -- When a start is refused.
-use Rattle.std.proofs.Common.{◌≡◌, ℕ, ◌<◌, ◌≤◌, Bool, true, false, cond, eqb, ltb, is_some, Some, None, Option, refl, ap, ◌∙◌, arith}
+use Rattle.std.proofs.Common.{◌≡◌, ℕ, ◌<◌, ◌≤◌, Bool, true, false, cond, eqb, ltb, is_some, Some, None, Option, refl, ap, ◌∙◌}
 use Rattle.std.proofs.lemmas.Bool.{lt-ltb, le-ltb, eq-eqb, ne_eqb}
 use Rattle.schedule.specs.Counting.{count_below}
 use Rattle.task.specs.declared.entry.Entry.{Entry}
@@ -10,7 +10,7 @@ use Rattle.trial.specs.Cycles.{table_period}
 use Rattle.bench.specs.Steps.{start_refusal}
 
 cpus_good : (b : Bool) (o : Option Refusal) → cond b (Some CpusOutOfRange) None ≡ None → cond b (Some CpusOutOfRange) o ≡ o
-cpus_good true o e = absurd (let z : ◌≡◌ {A = ℕ} 0 1 = cc in omega arith)
+cpus_good true o e = absurd (cc)
 cpus_good false o e = refl
 
 module _ (at : ℕ → Option Entry) (m : ℕ) (good : cpus_refusal m ≡ None) where

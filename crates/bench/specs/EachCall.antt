@@ -1,4 +1,4 @@
--- What each of the other calls answers and what it makes of the bench; and what any call does.
+-- What enter, withdraw, save, halt, verdict and set answer and make of a bench; and what any call does, by `Step`.
 use Rattle.std.specs.Prelude.{◌≡◌, ℕ, Bool, List, Some, None, Ok, Err, Option, Result, count_ones}
 use Rattle.task.specs.declared.entry.Entry.{Entry}
 use Rattle.task.specs.declared.task.Task.{Task}

@@ -32,13 +32,13 @@ module _ {K : Type 0} (keyed : Entry → ℕ → K) (le : K → K → Bool) wher
   goes_itself (Some d) i a = before_itself le (keyed d a) i
 
   goes_total : ((a b : K) → (le a b ≡ true) ⊎ (le b a ≡ true)) → (o q : Option Entry) (i a j b : ℕ) → is_some o ≡ true → is_some q ≡ true → (i ≡ j → ⊥) → (goes_before keyed le o i a q j b ≡ true) ⊎ (goes_before keyed le q j b o i a ≡ true)
-  goes_total total None q i a j b x y ne = absurd (let z : ◌≡◌ {A = ℕ} 0 1 = cc in omega arith)
-  goes_total total (Some d) None i a j b x y ne = absurd (let z : ◌≡◌ {A = ℕ} 0 1 = cc in omega arith)
+  goes_total total None q i a j b x y ne = absurd (cc)
+  goes_total total (Some d) None i a j b x y ne = absurd (cc)
   goes_total total (Some d) (Some e) i a j b x y ne = before_total le total (keyed d a) (keyed e b) i j ne
 
   goes_through : ((a b c : K) → le a b ≡ true → le b c ≡ true → le a c ≡ true) → (o q r : Option Entry) (i a j b k c : ℕ) → goes_before keyed le o i a q j b ≡ true → goes_before keyed le q j b r k c ≡ true → goes_before keyed le o i a r k c ≡ true
   goes_through trans None q r i a j b k c x y = x
-  goes_through trans (Some d) None r i a j b k c x y = absurd (let z : ◌≡◌ {A = ℕ} 0 1 = cc in omega arith)
+  goes_through trans (Some d) None r i a j b k c x y = absurd (cc)
   goes_through trans (Some d) (Some e) None i a j b k c x y = y
   goes_through trans (Some d) (Some e) (Some f) i a j b k c x y = before_through le trans (keyed d a) (keyed e b) (keyed f c) i j k x y
 

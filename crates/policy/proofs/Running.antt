@@ -45,10 +45,10 @@ module _ {K : Type 0} (keyed : Entry → ℕ → K) (le : K → K → Bool) wher
   -- a job with a key: it is active, and that is its key
   keyed_so : (x : Bool) (k l : K) → cond x (Some k) None ≡ Some l → (x ≡ true) × (k ≡ l)
   keyed_so true k l e = (refl, cc)
-  keyed_so false k l e = absurd (let z : ◌≡◌ {A = ℕ} 0 1 = cc in omega arith)
+  keyed_so false k l e = absurd (cc)
 
   unkeyed_so : (x : Bool) (k : K) → cond x (Some k) None ≡ None → x ≡ false
-  unkeyed_so true k e = absurd (let z : ◌≡◌ {A = ℕ} 0 1 = cc in omega arith)
+  unkeyed_so true k e = absurd (cc)
   unkeyed_so false k e = refl
 
   module _ (at : ℕ → Option Entry) (left : List ℕ) (m t : ℕ) where
@@ -58,7 +58,7 @@ module _ {K : Type 0} (keyed : Entry → ℕ → K) (le : K → K → Bool) wher
 
     runs_by : (o : Option Entry) (r a i : ℕ) (k : K) → job_key keyed o a r ≡ Some k
         → (is_some o && (ltb 0 r && ltb (count_below 32 (λ j. ltb 0 (left_of left j) && goes_before keyed le (at j) j (age_of (at j) t) o i a)) m)) ≡ ltb (count_ahead le job k i) m
-    runs_by None r a i k e = absurd (let z : ◌≡◌ {A = ℕ} 0 1 = cc in omega arith)
+    runs_by None r a i k e = absurd (cc)
     runs_by (Some s) r a i k e =
         let (on, same) = keyed_so (ltb 0 r) (keyed s a) k e in
         ap (λ x. x && ltb (count_below 32 (λ j. ltb 0 (left_of left j) && goes_before keyed le (at j) j (age_of (at j) t) (Some s) i a)) m) on
@@ -105,7 +105,7 @@ module _ {K : Type 0} (keyed : Entry → ℕ → K) (le : K → K → Bool) wher
 
   -- 2. where there are CPUs for all
   idle_part : (a b c : Bool) → (a && b) ≡ false → (a && (b && c)) ≡ false
-  idle_part true true c e = absurd (let z : ◌≡◌ {A = ℕ} 0 1 = cc in omega arith)
+  idle_part true true c e = absurd (cc)
   idle_part true false c e = refl
   idle_part false b c e = refl
 
@@ -146,17 +146,17 @@ module _ {K : Type 0} (le : K → K → Bool) (trans : (a b c : K) → le a b �
         (rw e p)
 
     waits_by : (o : Option K) (j i : ℕ) (b : K) → j < 32 → jobs j ≡ o → jobs i ≡ Some b → runs_at le jobs m j o ≡ false → ahead_of le o j b i ≡ true → runs_of le jobs m i ≡ false
-    waits_by None j i b h e f w p = absurd (let z : ◌≡◌ {A = ℕ} 0 1 = cc in omega arith)
+    waits_by None j i b h e f w p = absurd (cc)
     waits_by (Some a) j i b h e f w p = ap (runs_at le jobs m i) f ∙ le-ltb (count_ahead le jobs b i) m (omega (arith, ltb-false (count_ahead le jobs a j) m w, fewer j i a b h e p))
 
     pub behind_waiting : (mark : Option ℕ) (i : ℕ) (b : K) → Marked le jobs m false mark → jobs i ≡ Some b → mark_ahead le jobs mark b i ≡ true → runs_of le jobs m i ≡ false
-    behind_waiting None i b h f p = absurd (let z : ◌≡◌ {A = ℕ} 0 1 = cc in omega arith)
+    behind_waiting None i b h f p = absurd (cc)
     behind_waiting (Some j) i b h f p = waits_by (jobs j) j i b h.0 refl f h.2 p
 
     runs_by_mark : (o : Option K) (j i : ℕ) (b : K) → i < 32 → jobs j ≡ o → jobs i ≡ Some b → runs_at le jobs m j o ≡ true → behind_of le o j b i ≡ true → runs_of le jobs m i ≡ true
-    runs_by_mark None j i b h e f w p = absurd (let z : ◌≡◌ {A = ℕ} 0 1 = cc in omega arith)
+    runs_by_mark None j i b h e f w p = absurd (cc)
     runs_by_mark (Some a) j i b h e f w p = ap (runs_at le jobs m i) f ∙ lt-ltb (count_ahead le jobs b i) m (omega (arith, ltb-true (count_ahead le jobs a j) m w, fewer i j b a h f p))
 
     pub before_running : (mark : Option ℕ) (i : ℕ) (b : K) → i < 32 → Marked le jobs m true mark → jobs i ≡ Some b → mark_behind le jobs mark b i ≡ true → runs_of le jobs m i ≡ true
-    before_running None i b l h f p = absurd (let z : ◌≡◌ {A = ℕ} 0 1 = cc in omega arith)
+    before_running None i b l h f p = absurd (cc)
     before_running (Some j) i b l h f p = runs_by_mark (jobs j) j i b l refl f h.2 p

@@ -51,7 +51,7 @@ module _ (e : Entry) (t b : ℕ) (r : Released e t b) where
   since_is = mod-eq_of_lt (omega (arith, r.recent, r.short)) ∙ age_is
 
 since_of : (o : Option Entry) (t b : ℕ) → Latest o t b → is_some o ≡ true → since b t ≡ age_of o t
-since_of None t b r h = absurd (let z : ◌≡◌ {A = ℕ} 0 1 = cc in omega arith)
+since_of None t b r h = absurd (cc)
 since_of (Some e) t b r h = since_is e t b r
 
 -- the ages of the active jobs count from the latest releases

@@ -15,11 +15,11 @@ use Rattle.bench.specs.Steps.{View, with_mode, plan_for, GoesOn, RanFor, open_re
 pub stays_started : (p : Plan) (a b : Mode) (k : ℕ) → GoesOn p a k b → b ≡ Open → ⊥
 stays_started p Open b k g e = g
 stays_started p (Running a) Open k g e = g
-stays_started p (Running a) (Running b) k g e = let z : ◌≡◌ {A = ℕ} 0 1 = cc in omega arith
-stays_started p (Running a) (Held b x y) k g e = let z : ◌≡◌ {A = ℕ} 0 1 = cc in omega arith
-stays_started p (Running a) (Missed b x y) k g e = let z : ◌≡◌ {A = ℕ} 0 1 = cc in omega arith
-stays_started p (Held a x y) b k g e = let z : ◌≡◌ {A = ℕ} 0 1 = cc in omega arith
-stays_started p (Missed a x y) b k g e = let z : ◌≡◌ {A = ℕ} 0 1 = cc in omega arith
+stays_started p (Running a) (Running b) k g e = cc
+stays_started p (Running a) (Held b x y) k g e = cc
+stays_started p (Running a) (Missed b x y) k g e = cc
+stays_started p (Held a x y) b k g e = cc
+stays_started p (Missed a x y) b k g e = cc
 
 stays : (p : Plan) (b : Mode) (k : ℕ) → is_decided (verdict_of b) ≡ true → GoesOn p b k b
 stays p Open k e = absurd (both_ways false refl e)
@@ -40,9 +40,9 @@ module _ {P K : Type 0} (keyed : P → Entry → ℕ → K) (le : P → K → K 
 
   refused_open : {A : Type 0} (mode : Mode) (e : Refusal) → (mode ≡ Open → ⊥) → open_refusal (is_started mode) ≡ Some e → A
   refused_open Open e shut h = absurd (shut refl)
-  refused_open (Running a) e shut h = absurd (let z : ◌≡◌ {A = ℕ} 0 1 = cc in omega arith)
-  refused_open (Held a x y) e shut h = absurd (let z : ◌≡◌ {A = ℕ} 0 1 = cc in omega arith)
-  refused_open (Missed a x y) e shut h = absurd (let z : ◌≡◌ {A = ℕ} 0 1 = cc in omega arith)
+  refused_open (Running a) e shut h = absurd (cc)
+  refused_open (Held a x y) e shut h = absurd (cc)
+  refused_open (Missed a x y) e shut h = absurd (cc)
 
   pub ran_refused : {A : Type 0} (v u : View P) (k : ℕ) (e : Refusal) → (v.mode ≡ Open → ⊥) → RanFor keyed le v k (Err e) u → A
   ran_refused v u k e shut q = refused_open v.mode e shut q.0

@@ -20,7 +20,7 @@ use Rattle.report.specs.Prints.{Faulty, no_sheet, no_start, VerdictOfSheet, Line
 
 -- an answer is not both a table and a fault
 not_both : {A : Type 0} (cpus : ℕ) (places : List (Option Entry)) (f : LoadFault) → ◌≡◌ {A = Answer} (Ok (cpus, places)) (Err f) → A
-not_both cpus places f e = absurd (let z : ◌≡◌ {A = ℕ} 0 1 = cc in omega arith)
+not_both cpus places f e = absurd (cc)
 
 cpus_in : Answer → ℕ
 cpus_in (Ok q) = q.0

@@ -37,7 +37,7 @@ breaks s rest cpus es f h o e w =
 -- the table refused the entry
 pub entry_refused : {U : Type 0} (t t' : List (Option Entry)) (e : Entry) (place : ℕ) (bytes rest : List ℕ) (r : Result U Refusal) (q : Result U Placed) (p : Placed)
     → Enters t e t' r → AtPlace place r q → q ≡ Err p → Reads place bytes e rest → fault_at false t place bytes ≡ Some (Refused p.refusal p.place)
-entry_refused t t' e place bytes rest (Ok v) q p a b h w = absurd (let z : ◌≡◌ {A = ℕ} 0 1 = cc in omega arith)
+entry_refused t t' e place bytes rest (Ok v) q p a b h w = absurd (cc)
 entry_refused t t' e place bytes rest (Err x) q p a b h w =
     let f : p ≡ record { refusal = x; place = place } = cc in
     w.judged t ∙ (ap (refused_at place) a.0 ∙ ap (λ z. Some (Refused z.refusal z.place)) (sym f))
@@ -46,7 +46,7 @@ entry_refused t t' e place bytes rest (Err x) q p a b h w =
 pub entry_taken : {U : Type 0} (t t' : List (Option Entry)) (e : Entry) (place : ℕ) (r : Result U Refusal) (q : Result U Placed) (v : U)
     → Enters t e t' r → AtPlace place r q → q ≡ Ok v → (entry_refusal t e ≡ None) × (t' ≡ with_entry t e)
 entry_taken t t' e place (Ok w) q v a b h = a
-entry_taken t t' e place (Err x) q v a b h = absurd (let z : ◌≡◌ {A = ℕ} 0 1 = cc in omega arith)
+entry_taken t t' e place (Err x) q v a b h = absurd (cc)
 
 pub front_more : (cpus : ℕ) (es : List Entry) (e : Entry) (rest : List ℕ) → front cpus es ++ (tk e ++ rest) ≡ front cpus (es ++ e ∷ []) ++ rest
 front_more cpus es e rest = sym (append_assoc (front cpus es) (tk e) rest) ∙ ap (λ v. v ++ rest) (flat_map_more tk (cp cpus) es e)

@@ -11,10 +11,10 @@ use Rattle.task.specs.Rules.{outside, bears, cpus_refusal, times_refusal, entry_
 use Rattle.task.specs.Tables.{InBounds, Apart, Obey, filled, table_of}
 
 pub never : {X : Type 0} {x : X} {A : Type 0} (o : Option X) → o ≡ Some x → o ≡ None → A
-never o p q = absurd (let z : ◌≡◌ {A = ℕ} 0 1 = cc in omega arith)
+never o p q = absurd (cc)
 
 pub clash : {A : Type 0} (b : Bool) → b ≡ true → b ≡ false → A
-clash b p q = absurd (let z : ◌≡◌ {A = ℕ} 0 1 = cc in omega arith)
+clash b p q = absurd (cc)
 
 pub cond_none : {X : Type 0} (b : Bool) (x : X) (o : Option X) → cond b (Some x) o ≡ None → (b ≡ false) × (o ≡ None)
 cond_none true x o e = never (Some x) refl e

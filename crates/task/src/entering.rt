@@ -47,7 +47,7 @@ impl Table {
     /// Takes the entry as a task, or refuses it and stays as it is.
     pub fn enter(&mut self, entry: Entry) -> Result<(), Refusal>
         ensures enters { Enters (entries self.old.tasks) entry (entries self.new.tasks) result }
-        ensures refused { OnErr result (self.new.tasks ≡ self.old.tasks) }
+        ensures refusal_keeps_tasks { OnErr result (self.new.tasks ≡ self.old.tasks) }
     {
         let task = admit(entry, &self.tasks)?;
         self.tasks[entry.number as usize] = Some(task);

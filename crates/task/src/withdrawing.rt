@@ -8,7 +8,7 @@ impl Table {
     /// Lets the task with this number go, or refuses and stays as it is.
     pub fn withdraw(&mut self, number: u8) -> Result<(), Refusal>
         ensures withdraws { Withdraws (entries self.old.tasks) number (entries self.new.tasks) result }
-        ensures refused { OnErr result (self.new.tasks ≡ self.old.tasks) }
+        ensures refusal_keeps_tasks { OnErr result (self.new.tasks ≡ self.old.tasks) }
     {
         if number > 31 {
             return Err(Refusal::NumberTooLarge);

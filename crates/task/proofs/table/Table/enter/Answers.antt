@@ -16,5 +16,5 @@ returns c =
     let a = c.in_ok-task.ensures in
     record {
       enters = (a.0, entries_set c.args.self.now.tasks c.args.entry.number c.in_ok-task.task ∙ ap (λ x. set (entries c.args.self.now.tasks) c.args.entry.number (Some x)) a.1);
-      refused = tt;
+      refusal_keeps_tasks = tt;
     }

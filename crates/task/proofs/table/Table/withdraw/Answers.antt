@@ -8,7 +8,7 @@ pub returns-then-is_none : goal.returns-then-is_none
 returns-then-is_none c =
     record {
       withdraws = (no_such_task (entries c.args.self.now.tasks) c.args.number (omega arith) (entry_there c.args.self.now.tasks c.args.number _ _ (omega arith) (sym c.if-is_none.ensures)), refl);
-      refused = refl;
+      refusal_keeps_tasks = refl;
     }
 
 pub invariant_of-self : goal.invariant_of-self
@@ -24,5 +24,5 @@ returns c =
         may_go (entries c.args.self.now.tasks) c.args.number (omega arith) (entry_there c.args.self.now.tasks c.args.number _ _ (omega arith) (sym c.if-is_none.ensures)),
         entries_less c.args.self.now.tasks c.args.number,
       );
-      refused = tt;
+      refusal_keeps_tasks = tt;
     }
