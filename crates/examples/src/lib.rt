@@ -7,8 +7,6 @@
 ghost use Rattle.examples.specs.Rows.{AllRight};
 
 /// Every row of the table is right.
-pub fn worked_examples() -> u8
+pub fn worked_examples()
     ensures { AllRight }
-{
-    0
-}
+{}

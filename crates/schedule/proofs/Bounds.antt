@@ -13,7 +13,7 @@ pub record Bounded (p : Plan) (w : Way) (i b r : ℕ) : Type 0 where
 less : (p : Plan) (w : Way) (i b r s : ℕ) → s ≤ r → Bounded p w i b r → Bounded p w i b s
 less p w i b r s h x = record { small = omega arith; begun = λ l. x.begun (omega arith); kept = λ l. x.kept (omega arith) }
 
-slot_less : (b : Bool) (c : ℕ) → cond b (c - 1) c ≤ c
+pub slot_less : (b : Bool) (c : ℕ) → cond b (c - 1) c ≤ c
 slot_less true c = omega arith
 slot_less false c = omega arith
 

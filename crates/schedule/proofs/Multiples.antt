@@ -55,10 +55,6 @@ lcm_least a b pa pb = least_from_greatest a b (gcd a b) pa pb (gcd_greatest a b)
 pub lcm_positive : (a b : ℕ) → 0 < a → 0 < b → 0 < lcm a b
 lcm_positive a b pa pb = (lcm_least a b pa pb).positive
 
-pub lcm_one : (a : ℕ) → 0 < a → lcm a 1 ≡ a
-unfolding gcd_within
-lcm_one a h = mul-one (a / 1) ∙ div-one a
-
 pub lcm_none : (f : ℕ → ℕ) → lcm_below 0 f ≡ 1
 unfolding lcm_below
 lcm_none f = refl

@@ -7,7 +7,7 @@
 ghost use Rattle.schedule.specs.Claims.{HyperperiodIsLeast, LastOffsetIsLargest, AtMostMRun, LessStaysLessOverASlot, LessStaysLessAtAnInstant, Growth, SomeBoundariesAgree, Repetition, NoMissLasts, Sustainability, OneVerdict, SettledVerdictsPromise, OneSettledVerdict};
 
 /// The theorems of the endless schedule.
-pub fn theorems() -> u8
+pub fn theorems()
     ensures hyperperiod_is_least { HyperperiodIsLeast }
     ensures last_offset_is_largest { LastOffsetIsLargest }
     ensures at_most_m_run { AtMostMRun }
@@ -21,6 +21,4 @@ pub fn theorems() -> u8
     ensures one_verdict { OneVerdict }
     ensures settled_verdicts_promise { SettledVerdictsPromise }
     ensures one_settled_verdict { OneSettledVerdict }
-{
-    0
-}
+{}

@@ -1,12 +1,11 @@
 -- The entries of a table in rising task numbers, and the table that they make again.
 use Rattle.std.proofs.Common.{◌≡◌, ℕ, suc, ◌+◌, ◌<◌, ◌≤◌, ◌⊎◌, List, [], ◌∷◌, ◌++◌, length, get_or, take, replicate, Some, None, Option, sym, refl, ap, ◌∙◌, inl, inr, ⊎_elim, append_assoc, append-nil, arith}
 use Rattle.std.specs.List.{flat_map}
-use Rattle.std.proofs.lemmas.List.{flat_map_more, map_more, take_all, set_at, length_push}
+use Rattle.std.proofs.lemmas.List.{flat_map_more, map_more, take_all, set_at, length_push, length-map}
 use Rattle.task.specs.declared.entry.Entry.{Entry}
 use Rattle.task.specs.declared.task.Task.{Task}
 use Rattle.task.specs.declared.table.Table.{Table}
 use Rattle.task.specs.Tables.{entry_of, entries, InBounds, Apart, Obey, Numbered, filled, table_of}
-use Rattle.task.proofs.Steps.{entries_length}
 use Rattle.task.proofs.Holding.{same_at}
 use Rattle.task.proofs.Leaving.{bounds_at}
 use Rattle.sheet.specs.Buffers.{Written}
@@ -100,4 +99,4 @@ told_again : (s : List (Option Entry)) → length s ≡ 32 → Numbered s → ta
 told_again s l w = ap (λ k. filled (replicate k None) (listed s)) (sym l) ∙ refill s [] (λ i e p. let z = w i e p in omega arith)
 
 pub table_again : (t : Table) → table_of (listed (entries t.tasks)) ≡ entries t.tasks
-table_again t = told_again (entries t.tasks) (entries_length t.tasks ∙ t.places) t.numbered
+table_again t = told_again (entries t.tasks) (length-map t.tasks entry_of ∙ t.places) t.numbered

@@ -1,14 +1,13 @@
 -- Tables keep their places and names apart, and hold just what they took.
 use Rattle.std.proofs.Common.{◌≡◌, ℕ, suc, ◌<◌, ◌≤◌, false, ◌≢◌, ◌⊎◌, List, [], ◌∷◌, length, get_or, set, Some, None, Option, sym, refl, ap, ◌∙◌, subst, inl, inr, ⊎_elim, arith, length-set, get_or-set_other, get_or-set_same}
 use Rattle.std.specs.Str.{bytes_eq}
-use Rattle.std.proofs.lemmas.List.{get_or-replicate, get_or_past}
+use Rattle.std.proofs.lemmas.List.{get_or-replicate, get_or_past, length-map, map-set}
 use Rattle.std.proofs.lemmas.Bool.{cases_eq, cases_lt, or_from}
 use Rattle.task.specs.declared.entry.Entry.{Entry}
 use Rattle.task.specs.declared.task.Task.{Task}
 use Rattle.task.specs.Rules.{bears, entry_refusal, no_tasks, with_entry}
-use Rattle.task.specs.Tables.{entries, Obey, Numbered, SameName, Distinct, filled, In, HoldsJustThese, TakesJustLawfulEntries}
+use Rattle.task.specs.Tables.{entry_of, entries, Obey, Numbered, SameName, Distinct, filled, In, HoldsJustThese, TakesJustLawfulEntries}
 use Rattle.task.proofs.Obeying.{never, clash, fits_from, bounds_from, unrefused, differ, bears_has, filled_other}
-use Rattle.task.proofs.Steps.{entries_set, entries_length}
 
 none_there : (n : ℕ) → get_or no_tasks n None ≡ None
 none_there n = ⊎_elim (λ h. get_or-replicate 32 n None None h) (λ h. get_or_past no_tasks n None h) (cases_lt n 32)
@@ -69,8 +68,8 @@ pub table_more : (ss : List (Option Task)) (t : Task) (e : Entry) → length ss 
     → Numbered (entries (set ss e.number (Some t))) × Distinct (entries (set ss e.number (Some t)))
 table_more ss t e l q h a b =
     let p = fits_from (entries ss) e h in
-    let z : length (entries ss) ≡ 32 = entries_length ss ∙ l in
-    let s : with_entry (entries ss) e ≡ entries (set ss e.number (Some t)) = sym (entries_set ss e.number t ∙ ap (λ x. set (entries ss) e.number (Some x)) q) in (
+    let z : length (entries ss) ≡ 32 = length-map ss entry_of ∙ l in
+    let s : with_entry (entries ss) e ≡ entries (set ss e.number (Some t)) = sym (map-set entry_of ss e.number (Some t) ∙ ap (λ x. set (entries ss) e.number (Some x)) q) in (
       subst Numbered s (numbered_more (entries ss) e z p.number a),
       subst Distinct s (distinct_more (entries ss) e z p.number p.clear.new b),
     )

@@ -1,19 +1,15 @@
 -- A task that is withdrawn leaves the other places as they were, and may return.
-use Rattle.std.proofs.Common.{◌≡◌, ℕ, zero, suc, ◌≤◌, true, false, List, [], ◌∷◌, get_or, set, is_some, Some, None, Option, sym, refl, ap, ◌∙◌, subst}
+use Rattle.std.proofs.Common.{◌≡◌, ℕ, zero, suc, ◌≤◌, true, List, [], ◌∷◌, get_or, set, is_some, Some, None, Option, sym, refl, ap, ◌∙◌, subst}
 use Rattle.std.proofs.lemmas.List.{map-set}
+use Rattle.std.proofs.Math.ListN.{get_or-map}
 use Rattle.std.proofs.lemmas.Bool.{le-ltb}
 use Rattle.task.specs.declared.entry.Entry.{Entry}
-use Rattle.task.specs.declared.refusal.Refusal.TheVariants.{NoSuchTask}
 use Rattle.task.specs.declared.task.Task.{Task}
 use Rattle.task.specs.Rules.{withdraw_refusal, without_entry}
 use Rattle.task.specs.Tables.{entry_of, entries, InBounds, Numbered, Distinct}
 use Rattle.task.specs.Theorems.{WithdrawnMayReturn}
 use Rattle.task.proofs.Obeying.{never, unrefused}
-use Rattle.task.proofs.Steps.{entries_at}
 use Rattle.task.proofs.Holding.{both, same_at, nobody}
-
-pub no_such_task : (s : List (Option Entry)) (n : ℕ) → n ≤ 31 → is_some (get_or s n None) ≡ false → withdraw_refusal s n ≡ Some NoSuchTask
-no_such_task s n l h = rw (le-ltb 31 n l, h)
 
 pub may_go : (s : List (Option Entry)) (n : ℕ) → n ≤ 31 → is_some (get_or s n None) ≡ true → withdraw_refusal s n ≡ None
 may_go s n l h = rw (le-ltb 31 n l, h)
@@ -69,7 +65,7 @@ bounds_in (Some u) e h = let q : u.figures ≡ e = cc in subst InBounds q (bound
 
 -- each entry of a table is in bounds
 pub bounds_at : (ss : List (Option Task)) (n : ℕ) (e : Entry) → get_or (entries ss) n None ≡ Some e → InBounds e
-bounds_at ss n e h = bounds_in (get_or ss n None) e (sym (entries_at ss n) ∙ h)
+bounds_at ss n e h = bounds_in (get_or ss n None) e (sym (get_or-map entry_of ss n None) ∙ h)
 
 pub withdrawn_may_return : WithdrawnMayReturn
 withdrawn_may_return t n e h =

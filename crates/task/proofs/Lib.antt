@@ -1,5 +1,5 @@
+pub mod Flattened
 pub mod Steps
 pub mod Obeying
-pub mod Admitting
 pub mod Holding
 pub mod Leaving

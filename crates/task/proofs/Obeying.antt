@@ -48,9 +48,6 @@ from_inside n limit a b =
 pub cpus_inside : (cpus : ℕ) → cpus_refusal cpus ≡ None → (1 ≤ cpus) × (cpus ≤ 8)
 cpus_inside cpus h = inside cpus 8 (cond_none (outside cpus 8) CpusOutOfRange None h).0
 
-pub cpus_fit : (cpus : ℕ) → 1 ≤ cpus → cpus ≤ 8 → cpus_refusal cpus ≡ None
-cpus_fit cpus a b = rw (from_inside cpus 8 a b)
-
 -- the times of an entry that has nothing wrong with them
 pub record Timely (e : Entry) : Type 0 where
   pub offset : e.offset ≤ 1000000

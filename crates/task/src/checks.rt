@@ -1,5 +1,4 @@
 ghost use Rattle.std.specs.Prelude.{◌≡◌};
-ghost use Rattle.std.specs.Str.{bytes_eq};
 ghost use Rattle.task.specs.Names.{is_name};
 ghost use Rattle.task.specs.Rules.{outside, bears, cpus_refusal, times_refusal, Answers};
 ghost use Rattle.task.specs.Tables.{entries};
@@ -12,14 +11,14 @@ use crate::task::Task;
 fn is_outside(n: u16, limit: u16) -> bool
     ensures { result ≡ outside n limit }
 {
-    n == 0 || n > limit
+    !(1..=limit).contains(&n)
 }
 
 /// Whether a number of CPUs is from 1 to 8, and if not, the refusal.
 pub fn check_cpus(cpus: u8) -> Result<(), Refusal>
     ensures { Answers (cpus_refusal cpus) result }
 {
-    if cpus == 0 || cpus > 8 {
+    if is_outside(u16::from(cpus), 8) {
         return Err(Refusal::CpusOutOfRange);
     }
     Ok(())
@@ -29,36 +28,17 @@ pub fn check_cpus(cpus: u8) -> Result<(), Refusal>
 pub(crate) fn fits_name(name: &[u8; 8]) -> bool
     ensures { result ≡ is_name name.now }
 {
-    if name[0] == b' ' {
-        return false;
-    }
-    for b in name {
-        if *b < 0x20 || *b > 0x7e {
-            return false;
-        }
-    }
-    true
-}
-
-// Whether two names are the same
-fn same_name(a: &[u8; 8], b: &[u8; 8]) -> bool
-    ensures { result ≡ bytes_eq a.now b.now }
-{
-    *a == *b
+    name[0] != b' ' && name.iter().all(|b| (0x20..=0x7e).contains(b))
 }
 
 // Whether some task bears the name
 pub(crate) fn bears_name(tasks: &[Option<Task>; 32], name: &[u8; 8]) -> bool
     ensures { result ≡ bears (entries tasks.now) name.now }
 {
-    for slot in tasks.iter() {
-        if let Some(task) = slot {
-            if same_name(&task.figures.name, name) {
-                return true;
-            }
-        }
-    }
-    false
+    tasks
+        .iter()
+        .flatten()
+        .any(|task| task.figures.name == *name)
 }
 
 // The times of an entry, the period first
@@ -74,7 +54,7 @@ pub(crate) fn check_times(entry: &Entry) -> Result<(), Refusal>
     if is_outside(entry.runtime, entry.deadline) {
         return Err(Refusal::RuntimeOutOfRange);
     }
-    if entry.offset > 1000000 {
+    if entry.offset > 1_000_000 {
         return Err(Refusal::OffsetTooLarge);
     }
     Ok(())

@@ -15,8 +15,7 @@ fn admit(entry: Entry, tasks: &[Option<Task>; 32]) -> Result<Task, Refusal>
     if entry.number > 31 {
         return Err(Refusal::NumberTooLarge);
     }
-    let slot = tasks[entry.number as usize];
-    if slot.is_some() {
+    if tasks[usize::from(entry.number)].is_some() {
         return Err(Refusal::NumberTaken);
     }
     if !fits_name(&entry.name) {
@@ -50,7 +49,7 @@ impl Table {
         ensures refusal_keeps_tasks { OnErr result (self.new.tasks ≡ self.old.tasks) }
     {
         let task = admit(entry, &self.tasks)?;
-        self.tasks[entry.number as usize] = Some(task);
+        self.tasks[usize::from(entry.number)] = Some(task);
         Ok(())
     }
 }

@@ -1,36 +1,36 @@
 /// Why a call is turned down. specs/Refusals.antt gives each case its number.
-#[derive(Clone, Copy)]
+#[derive(Clone, Copy, PartialEq, Eq, Debug)]
 pub enum Refusal {
     /// It has already started.
-    AlreadyStarted,
+    AlreadyStarted = 1,
     /// It has not started yet.
-    NotStarted,
+    NotStarted = 2,
     /// The number of CPUs is 0 or above 8.
-    CpusOutOfRange,
+    CpusOutOfRange = 8,
     /// The task number is above 31.
-    NumberTooLarge,
+    NumberTooLarge = 9,
     /// Another task has the number.
-    NumberTaken,
+    NumberTaken = 10,
     /// No task has the number.
-    NoSuchTask,
+    NoSuchTask = 11,
     /// The name begins with a space, or has a byte outside 20 to 7E (hexadecimal).
-    BadName,
+    BadName = 12,
     /// Another task bears the name.
-    NameTaken,
+    NameTaken = 13,
     /// The period is 0 or above 60,000.
-    PeriodOutOfRange,
+    PeriodOutOfRange = 14,
     /// The deadline is 0 or above the period.
-    DeadlineOutOfRange,
+    DeadlineOutOfRange = 15,
     /// The runtime is 0 or above the deadline.
-    RuntimeOutOfRange,
+    RuntimeOutOfRange = 16,
     /// The offset is above 1,000,000.
-    OffsetTooLarge,
+    OffsetTooLarge = 17,
     /// There are no tasks.
-    NoTasks,
+    NoTasks = 18,
     /// The hyperperiod is too long.
-    HyperperiodTooLong,
+    HyperperiodTooLong = 19,
     /// The threshold is not one that is taken.
-    BadThreshold,
+    BadThreshold = 20,
     /// The buffer is too short.
-    BufferTooShort,
+    BufferTooShort = 21,
 }

@@ -13,11 +13,12 @@ impl Table {
         if number > 31 {
             return Err(Refusal::NumberTooLarge);
         }
-        let slot = self.tasks[number as usize];
-        if slot.is_none() {
+        let place = usize::from(number);
+        // stays: not by take, which is not covered on a place of a struct that keeps facts of its places.
+        if self.tasks[place].is_none() {
             return Err(Refusal::NoSuchTask);
         }
-        self.tasks[number as usize] = None;
+        self.tasks[place] = None;
         Ok(())
     }
 }

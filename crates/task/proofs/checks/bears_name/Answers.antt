@@ -1,21 +1,14 @@
-use Rattle.std.proofs.Common.{◌≡◌, get_or, None, sym, ◌∙◌, arith, rules}
-use Rattle.std.proofs.lemmas.List.{at_drop_all, get_or_default}
-use Rattle.task.specs.Rules.{bears}
-use Rattle.task.specs.Tables.{entries}
-use Rattle.task.proofs.Steps.{bears_none, bears_other, bears_same}
+use Rattle.std.proofs.Common.{◌∙◌, sym, rules, tests}
+use Rattle.std.specs.Option.{option_to_list}
+use Rattle.std.proofs.lemmas.Iterator.{YieldsList-from_slice}
+use Rattle.std.proofs.lemmas.Iterator.Adapters.{YieldsList-from_flatten}
+use Rattle.std.proofs.lemmas.Iterator.Search.{any_from_yields_List}
+use Rattle.task.proofs.Flattened.{place_gives}
+use Rattle.task.proofs.Steps.{is_named, bears_any}
 use Rattle.task.proofs.checks.bears_name.Goals as goal
-use Rattle.task.proofs.checks.bears_name.Goals.{in-Some+else-same_name, in_default}
-
-pub returns-then-same_name : goal.returns-then-same_name
-returns-then-same_name c = sym (sym c.loop-slot.invariant ∙ bears_same c.args.tasks.now c.loop-slot.slot-index c.args.name.now c.in-Some.task (omega arith) (get_or_default c.args.tasks.now c.loop-slot.slot-index None c.slot-item.result (omega arith) ∙ c.in-Some.is) (sym c.if-same_name.ensures))
-
-pub loop-slot-preserved : goal.loop-slot-preserved
-loop-slot-preserved c = elim c.match-slot.branch [
-  | in-Some+else-same_name w ↦ bears_other c.args.tasks.now c.loop-slot.slot-index c.args.name.now w.in-Some.task (omega arith) (get_or_default c.args.tasks.now c.loop-slot.slot-index None c.slot-item.result (omega arith) ∙ w.in-Some.is) (sym w.if-same_name.ensures) ∙ c.loop-slot.invariant
-  | in_default w ↦
-      let e : get_or c.args.tasks.now c.loop-slot.slot-index None ≡ None = search rules in
-      bears_none c.args.tasks.now c.loop-slot.slot-index c.args.name.now (omega arith) e ∙ c.loop-slot.invariant
-]
 
 pub returns : goal.returns
-returns c = sym (sym c.loop-slot.invariant ∙ at_drop_all (λ s. bears (entries s) c.args.name.now) c.args.tasks.now c.loop-slot.slot-index (omega arith))
+returns c =
+    any_from_yields_List (is_named c.args.name.now) _ _ c.any.result c.any.ensures.ran
+    (YieldsList-from_flatten _ _ (λ y. y.now) option_to_list (λ x j b. place_gives j x.now b.0 b.1) (YieldsList-from_slice c.args.tasks.now cc) c.flatten.ensures.front c.flatten.ensures.back c.flatten.ensures.done)
+    (λ x b q k. search (rules, tests)) ∙ sym (bears_any c.args.tasks.now c.args.name.now)
