@@ -4,4 +4,8 @@ pub mod Idle
 pub mod Ranks
 pub mod Running
 pub mod Walking
+pub mod Rising
 pub mod Since
+pub mod Marks
+pub mod Contest
+pub mod Ahead

@@ -1,8 +1,8 @@
 -- Which jobs run, by the plan and by the keys of the jobs.
-use Rattle.std.proofs.Common.{◌≡◌, ℕ, ◌<◌, ◌≤◌, Bool, true, false, cond, not, ◌&&◌, ltb, ◌⊎◌, List, get_or, is_some, Some, None, Option, sym, refl, ap, ◌∙◌, ⊎_elim, arith}
+use Rattle.std.proofs.Common.{◌≡◌, ℕ, ◌<◌, ◌≤◌, Bool, true, false, cond, ◌&&◌, ltb, List, get_or, is_some, Some, None, Option, sym, refl, ap, ◌∙◌, ⊎_elim, arith}
 use lib.Count.{ones}
+use Rattle.std.proofs.Math.Bool.{and-false}
 use Rattle.std.proofs.lemmas.Bool.{and_parts, and_from, lt-ltb, le-ltb, ltb-true, ltb-false, cases_Bool}
-use Rattle.std.proofs.lemmas.Bool.Decides.{nat_tests}
 use Rattle.schedule.specs.Counting.{count_below}
 use Rattle.schedule.specs.Schedule.{has_cpu, stands_ahead}
 use Rattle.schedule.proofs.Sums.{count_same, count_lt}
@@ -11,26 +11,10 @@ use Rattle.policy.specs.Order.{stands_before}
 use Rattle.policy.specs.Plans.{plan_of, goes_before}
 use Rattle.policy.specs.Ages.{age_of}
 use Rattle.policy.specs.Sets.{left_of, word_of}
-use Rattle.policy.specs.Dispatch.{key_at, since, set_job, ahead_of, behind_of, count_ahead, runs_at, runs_of, is_active, mark_ahead, mark_behind, Marked, Known}
+use Rattle.policy.specs.Dispatch.{job_key, key_at, since, set_job, ahead_of, count_ahead, runs_at, runs_of, is_active, Known}
 use Rattle.policy.specs.Members.{has}
 use Rattle.policy.proofs.Ranks.{before_itself, before_through, goes_some, goes_itself}
 use Rattle.policy.proofs.Words.{word_same, word_ones, word_has}
-
-and_false : (x : Bool) → false ≡ (x && false)
-and_false true = refl
-and_false false = refl
-
--- one comparison tells, where the order is total
-pub lower_before : {K : Type 0} (le : K → K → Bool) (a : K) (j : ℕ) (b : K) (i : ℕ) → j < i → le a b ≡ stands_before le a j b i
-lower_before le a j b i h = grind (arith, nat_tests)
-
-pub upper_before : {K : Type 0} (le : K → K → Bool) (a : K) (j : ℕ) (b : K) (i : ℕ) → (le a b ≡ true) ⊎ (le b a ≡ true) → i ≤ j → not (le b a) ≡ stands_before le a j b i
-upper_before le a j b i t h = grind (arith, nat_tests)
-
--- the key of a job with r left, where it is active
-abbrev job_key : {K : Type 0} → (Entry → ℕ → K) → Option Entry → (age r : ℕ) → Option K
-job_key keyed None age r = None
-job_key keyed (Some e) age r = cond (ltb 0 r) (Some (keyed e age)) None
 
 module _ {K : Type 0} (keyed : Entry → ℕ → K) (le : K → K → Bool) where
   -- 1. by the keys
@@ -39,7 +23,7 @@ module _ {K : Type 0} (keyed : Entry → ℕ → K) (le : K → K → Bool) wher
   flagged false k j l i = refl
 
   ahead_is : (o : Option Entry) (j b r : ℕ) (s : Entry) (i a : ℕ) → ahead_of le (job_key keyed o b r) j (keyed s a) i ≡ (ltb 0 r && goes_before keyed le o j b (Some s) i a)
-  ahead_is None j b r s i a = and_false (ltb 0 r)
+  ahead_is None j b r s i a = sym (and-false (ltb 0 r))
   ahead_is (Some t) j b r s i a = flagged (ltb 0 r) (keyed t b) j (keyed s a) i
 
   -- a job with a key: it is active, and that is its key
@@ -105,9 +89,7 @@ module _ {K : Type 0} (keyed : Entry → ℕ → K) (le : K → K → Bool) wher
 
   -- 2. where there are CPUs for all
   idle_part : (a b c : Bool) → (a && b) ≡ false → (a && (b && c)) ≡ false
-  idle_part true true c e = absurd (cc)
-  idle_part true false c e = refl
-  idle_part false b c e = refl
+  idle_part a b c e = grind arith
 
   module _ (at : ℕ → Option Entry) (left : List ℕ) (m t : ℕ) (few : count_below 32 (is_active at left) ≤ m) where
     all_run : (i : ℕ) → i < 32 → is_active at left i ≡ has_cpu (plan_of keyed le at) m t (left_of left) i
@@ -118,7 +100,7 @@ module _ {K : Type 0} (keyed : Entry → ℕ → K) (le : K → K → Bool) wher
         let fewer : count_below 32 (stands_ahead (plan_of keyed le at) t (left_of left) i) < count_below 32 (is_active at left) =
         count_lt 32 (stands_ahead (plan_of keyed le at) t (left_of left) i) (is_active at left) i h
         (λ j l e. let (x, y) = and_parts (ltb 0 (left_of left j)) (goes_before keyed le (at j) j (age_of (at j) t) (at i) i (age_of (at i) t)) e in and_from (is_some (at j)) (ltb 0 (left_of left j)) (goes_some keyed le (at j) (at i) j (age_of (at j) t) i (age_of (at i) t) y) x)
-        (ap (λ x. ltb 0 (left_of left i) && x) (goes_itself keyed le (at i) i (age_of (at i) t)) ∙ sym (and_false (ltb 0 (left_of left i))))
+        (ap (λ x. ltb 0 (left_of left i) && x) (goes_itself keyed le (at i) i (age_of (at i) t)) ∙ and-false (ltb 0 (left_of left i)))
         on in
         on ∙ sym (and_from (is_some (at i)) _ here (and_from (ltb 0 (left_of left i)) _ more (lt-ltb (count_below 32 (stands_ahead (plan_of keyed le at) t (left_of left) i)) m (omega arith)))))
         (λ (off : is_active at left i ≡ false). off ∙ sym (idle_part (is_some (at i)) (ltb 0 (left_of left i)) _ off))
@@ -145,18 +127,12 @@ module _ {K : Type 0} (le : K → K → Bool) (trans : (a b c : K) → le a b �
         (rw e (before_itself le a j))
         (rw e p)
 
-    waits_by : (o : Option K) (j i : ℕ) (b : K) → j < 32 → jobs j ≡ o → jobs i ≡ Some b → runs_at le jobs m j o ≡ false → ahead_of le o j b i ≡ true → runs_of le jobs m i ≡ false
-    waits_by None j i b h e f w p = absurd (cc)
-    waits_by (Some a) j i b h e f w p = ap (runs_at le jobs m i) f ∙ le-ltb (count_ahead le jobs b i) m (omega (arith, ltb-false (count_ahead le jobs a j) m w, fewer j i a b h e p))
+    pub behind_waiting : (j i : ℕ) (a b : K) → j < 32 → jobs j ≡ Some a → jobs i ≡ Some b → runs_of le jobs m j ≡ false → stands_before le a j b i ≡ true → runs_of le jobs m i ≡ false
+    behind_waiting j i a b h e f w p =
+        let wait : ltb (count_ahead le jobs a j) m ≡ false = sym (ap (runs_at le jobs m j) e) ∙ w in
+        ap (runs_at le jobs m i) f ∙ le-ltb (count_ahead le jobs b i) m (omega (arith, ltb-false (count_ahead le jobs a j) m wait, fewer j i a b h e p))
 
-    pub behind_waiting : (mark : Option ℕ) (i : ℕ) (b : K) → Marked le jobs m false mark → jobs i ≡ Some b → mark_ahead le jobs mark b i ≡ true → runs_of le jobs m i ≡ false
-    behind_waiting None i b h f p = absurd (cc)
-    behind_waiting (Some j) i b h f p = waits_by (jobs j) j i b h.0 refl f h.2 p
-
-    runs_by_mark : (o : Option K) (j i : ℕ) (b : K) → i < 32 → jobs j ≡ o → jobs i ≡ Some b → runs_at le jobs m j o ≡ true → behind_of le o j b i ≡ true → runs_of le jobs m i ≡ true
-    runs_by_mark None j i b h e f w p = absurd (cc)
-    runs_by_mark (Some a) j i b h e f w p = ap (runs_at le jobs m i) f ∙ lt-ltb (count_ahead le jobs b i) m (omega (arith, ltb-true (count_ahead le jobs a j) m w, fewer i j b a h f p))
-
-    pub before_running : (mark : Option ℕ) (i : ℕ) (b : K) → i < 32 → Marked le jobs m true mark → jobs i ≡ Some b → mark_behind le jobs mark b i ≡ true → runs_of le jobs m i ≡ true
-    before_running None i b l h f p = absurd (cc)
-    before_running (Some j) i b l h f p = runs_by_mark (jobs j) j i b l refl f h.2 p
+    pub before_running : (j i : ℕ) (a b : K) → i < 32 → jobs j ≡ Some a → jobs i ≡ Some b → runs_of le jobs m j ≡ true → stands_before le b i a j ≡ true → runs_of le jobs m i ≡ true
+    before_running j i a b h e f w p =
+        let run : ltb (count_ahead le jobs a j) m ≡ true = sym (ap (runs_at le jobs m j) e) ∙ w in
+        ap (runs_at le jobs m i) f ∙ lt-ltb (count_ahead le jobs b i) m (omega (arith, ltb-true (count_ahead le jobs a j) m run, fewer i j b a h f p))

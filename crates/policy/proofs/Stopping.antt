@@ -1,10 +1,13 @@
 -- Between the members of a set, and past the last one, nothing more is found.
-use Rattle.std.proofs.Common.{◌≡◌, ℕ, zero, suc, ◌+◌, ◌-◌, ◌*◌, ◌^◌, ◌<◌, ◌≤◌, Bool, true, false, cond, sym, ap, ◌∙◌, ⊎_elim, arith}
+use Rattle.std.proofs.Common.{◌≡◌, ℕ, zero, suc, ◌+◌, ◌-◌, ◌*◌, ◌^◌, ◌<◌, ◌≤◌, ◌%◌, Bool, true, false, cond, List, ◌∷◌, sym, ap, ◌∙◌, ⊎_elim, arith}
+use lib.Bits.{bit_or}
 use Rattle.std.proofs.lemmas.Bool.{cases_Bool}
 use Rattle.schedule.specs.Counting.{sum_below, count_below}
-use Rattle.schedule.proofs.Sums.{count_more, count_upto}
+use Rattle.schedule.proofs.Sums.{count_none, count_more, count_upto}
 use Rattle.policy.specs.Members.{has, NextIn}
 use Rattle.policy.specs.Sets.{bit, word_of}
+use Rattle.policy.proofs.Rising.{first, Turn}
+use Rattle.policy.proofs.Words.{word_none, word_set, word_keep}
 
 pub count_stops : (test : ℕ → Bool) (d n : ℕ) → ((k : ℕ) → n ≤ k → k < n + d → test k ≡ false) → count_below (n + d) test ≡ count_below n test
 unfolding sum_below
@@ -35,6 +38,33 @@ module _ (set low next : ℕ) (n : NextIn set low next) (h : low ≤ 32) (test :
 
   pub word_next : word_of test next ≡ word_of test low
   word_next = ap (word_of test) (sym there) ∙ word_stops test (next - low) low between
+
+-- a loop along the members of a set that counts those that pass, and sets their bits, for a test that only members pass
+module _ (set : ℕ) (test : ℕ → Bool) (only : (k : ℕ) → has set k ≡ false → test k ≡ false) (rest : List ℕ) where
+  pub count_start : NextIn set 0 (first rest) → 0 ≡ count_below (first rest) test
+  count_start n = sym (count_next set 0 (first rest) n (omega arith) test only ∙ count_none test)
+
+  pub word_start : NextIn set 0 (first rest) → 0 ≡ word_of test (first rest)
+  word_start n = sym (word_next set 0 (first rest) n (omega arith) test only ∙ word_none test)
+
+  module _ (i : ℕ) (more : List ℕ) (e : rest ≡ i ∷ more) (t : Turn set i more) where
+    count_here : (n : ℕ) → n ≡ count_below (first rest) test → n + cond (test i) 1 0 ≡ count_below (first more) test
+    count_here n c =
+        let so_far : n ≡ count_below i test = c ∙ ap (λ r. count_below (first r) test) e in
+        let on : count_below (first more) test ≡ count_below (i + 1) test = count_next set (i + 1) (first more) t.next (omega (arith, t.within)) test only in
+        omega (arith, count_more i test)
+
+    pub count_hit : (n : ℕ) → n ≡ count_below (first rest) test → true ≡ test i → n + 1 ≡ count_below (first more) test
+    count_hit n c h = ap (λ b. n + cond b 1 0) h ∙ count_here n c
+
+    pub count_miss : (n : ℕ) → n ≡ count_below (first rest) test → false ≡ test i → n ≡ count_below (first more) test
+    count_miss n c h = let z : n ≡ n + 0 = omega arith in z ∙ (ap (λ b. n + cond b 1 0) h ∙ count_here n c)
+
+    pub word_hit : (m : ℕ) → m ≡ word_of test (first rest) → true ≡ test i → bit_or m ((1 * 2 ^ i) % 2 ^ 32) ≡ word_of test (first more)
+    word_hit m w h = word_set test i m t.within (w ∙ ap (λ r. word_of test (first r)) e) (sym h) ∙ sym (word_next set (i + 1) (first more) t.next (omega (arith, t.within)) test only)
+
+    pub word_miss : (m : ℕ) → m ≡ word_of test (first rest) → false ≡ test i → m ≡ word_of test (first more)
+    word_miss m w h = word_keep test i m (w ∙ ap (λ r. word_of test (first r)) e) (sym h) ∙ sym (word_next set (i + 1) (first more) t.next (omega (arith, t.within)) test only)
 
 -- where as many pass below i as pass at all, none passes from i on
 pub none_left : (test : ℕ → Bool) (m i : ℕ) → count_below 32 test ≤ m → m ≤ count_below i test → (k : ℕ) → i ≤ k → k < 32 → test k ≡ false

@@ -1,10 +1,10 @@
 -- The bits of a word that stands for a set, and how the word grows by a number.
-use Rattle.std.proofs.Common.{◌≡◌, ℕ, zero, suc, ◌+◌, ◌-◌, ◌*◌, ◌/◌, ◌%◌, ◌^◌, ◌<◌, ◌≤◌, Bool, true, false, cond, eqb, sym, refl, ap, ◌∙◌, subst, ap₂, ⊎_elim, mod-eq_of_lt, pow-suc, add-one, arith}
+use Rattle.std.proofs.Common.{◌≡◌, ℕ, zero, suc, ◌+◌, ◌-◌, ◌*◌, ◌/◌, ◌%◌, ◌^◌, ◌<◌, ◌≤◌, Bool, true, false, cond, eqb, sym, refl, ap, ◌∙◌, ap₂, ⊎_elim, pow-suc, add-one, arith}
 use lib.Count.{ones, ones_in, ones_cat}
 use Rattle.schedule.specs.Counting.{sum_below, count_below}
-use lib.Pow.{field, mod-mod-pow}
 use lib.Bits.{bit_or}
-use Rattle.std.proofs.lemmas.Nat.{mul-le, or_shifted, or_comm, shr_high, mod_low, shl_whole}
+use Rattle.std.proofs.lemmas.Nat.{mul-le, or_shifted, or_comm, shl_whole}
+use Rattle.std.proofs.lemmas.Nat.Bits.{bit_at_lowest, bit_at_cat_low, bit_at_cat_high}
 use Rattle.std.proofs.lemmas.Bool.{cases_lt}
 use Rattle.policy.specs.Members.{has}
 use Rattle.policy.specs.Sets.{bit, word_of}
@@ -16,16 +16,6 @@ bit_below false = omega arith
 bit_mod : (b : Bool) → bit b % 2 ≡ bit b
 bit_mod true = refl
 bit_mod false = refl
-
--- numbers that agree below 2 ^ n have the same bits there
-same_bit_at : (x y d i : ℕ) → x % 2 ^ ((d + 1) + i) ≡ y % 2 ^ ((d + 1) + i) → (x / 2 ^ i) % 2 ≡ (y / 2 ^ i) % 2
-same_bit_at x y d i e =
-    sym (mod-mod-pow (x / 2 ^ i) d 1) ∙ ap (λ z. z % 2) (sym (field x (d + 1) i) ∙ ap (λ z. z / 2 ^ i) e ∙ field y (d + 1) i) ∙ mod-mod-pow (y / 2 ^ i) d 1
-
-same_bit : (x y n i : ℕ) → i < n → x % 2 ^ n ≡ y % 2 ^ n → (x / 2 ^ i) % 2 ≡ (y / 2 ^ i) % 2
-same_bit x y n i h e =
-    let at : n ≡ ((n - suc i) + 1) + i = omega arith in
-    same_bit_at x y (n - suc i) i (subst (λ m. x % 2 ^ m ≡ y % 2 ^ m) at e)
 
 module _ (f : ℕ → Bool) where
   pub word_none : word_of f 0 ≡ 0
@@ -48,8 +38,8 @@ module _ (f : ℕ → Bool) where
   word_bit zero i h = absurd (omega arith)
   word_bit (suc n) i h =
       ⊎_elim
-      (λ (lt : i < n). same_bit _ (word_of f n) n i lt (mod_low (bit (f n)) n (word_of f n) (word_below n) ∙ sym (mod-eq_of_lt (word_below n))) ∙ word_bit n i lt)
-      (λ (le : n ≤ i). let at : i ≡ n = omega arith in rw at (ap (λ z. z % 2) (shr_high (bit (f n)) n (word_of f n) (word_below n)) ∙ bit_mod (f n)))
+      (λ (lt : i < n). bit_at_cat_low (bit (f n)) n (word_of f n) i lt ∙ word_bit n i lt)
+      (λ (le : n ≤ i). let at : i ≡ n = omega arith in let none : i - n ≡ 0 = omega arith in bit_at_cat_high (bit (f n)) n (word_of f n) i (word_below n) le ∙ rw (none, at) (bit_at_lowest (bit (f n)) ∙ bit_mod (f n)))
       (cases_lt i n)
 
   bit_test : (b : Bool) → eqb (bit b) 1 ≡ b

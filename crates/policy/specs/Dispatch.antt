@@ -12,10 +12,6 @@ abbrev pub job_key : {K : Type 0} → (Entry → ℕ → K) → Option Entry →
 job_key keyed None age r = None
 job_key keyed (Some e) age r = cond (nat_lt 0 r) (Some (keyed e age)) None
 
--- the keys of the active jobs by task number, with the jobs' ages from a list
-abbrev pub aged_job : {K : Type 0} → (Entry → ℕ → K) → (ℕ → Option Entry) → (ages left : List ℕ) → ℕ → Option K
-aged_job keyed at ages left j = job_key keyed (at j) (slice_index ages j) (left_of left j)
-
 -- the key of the job of a place at an age
 abbrev pub key_at : {K : Type 0} → (Entry → ℕ → K) → Option Entry → ℕ → Option K
 key_at keyed None age = None
@@ -54,28 +50,3 @@ runs_at le jobs m i (Some k) = nat_lt (count_ahead le jobs k i) m
 -- task i's job is active, and fewer than m active jobs stand before it
 abbrev pub runs_of : {K : Type 0} → (K → K → Bool) → (ℕ → Option K) → (m i : ℕ) → Bool
 runs_of le jobs m i = runs_at le jobs m i (jobs i)
-
--- task i's job, of key k, stands before what is active at j
-abbrev pub behind_of : {K : Type 0} → (K → K → Bool) → Option K → ℕ → K → ℕ → Bool
-behind_of le None j k i = false
-behind_of le (Some a) j k i = stands_before le k i a j
-
--- a mark stands for a task's job or for none, and that job is ahead of task i's, of key k ..
-abbrev pub mark_ahead : {K : Type 0} → (K → K → Bool) → (ℕ → Option K) → Option ℕ → K → ℕ → Bool
-mark_ahead le jobs None k i = false
-mark_ahead le jobs (Some j) k i = ahead_of le (jobs j) j k i
-
--- .. or behind it
-abbrev pub mark_behind : {K : Type 0} → (K → K → Bool) → (ℕ → Option K) → Option ℕ → K → ℕ → Bool
-mark_behind le jobs None k i = false
-mark_behind le jobs (Some j) k i = behind_of le (jobs j) j k i
-
--- a mark is in the table
-abbrev pub InTable : Option ℕ → Type 0
-InTable None = Unit {0}
-InTable (Some j) = j < 32
-
--- the marked job is active, and it runs or not, as told
-abbrev pub Marked : {K : Type 0} → (K → K → Bool) → (ℕ → Option K) → (m : ℕ) → Bool → Option ℕ → Type 0
-Marked le jobs m told None = Unit {0}
-Marked le jobs m told (Some j) = (j < 32) × (is_some (jobs j) ≡ true) × (runs_of le jobs m j ≡ told)

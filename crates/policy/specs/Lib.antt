@@ -7,3 +7,4 @@ pub mod Members
 pub mod Releases
 pub mod Dispatch
 pub mod Groups
+pub mod Slots

@@ -1,5 +1,5 @@
 -- The members of a set of tasks that is a word.
-use Rattle.std.specs.Prelude.{◌≡◌, ℕ, ◌/◌, ◌%◌, ◌^◌, ◌<◌, ◌≤◌, Bool, true, false, ◌==◌}
+use Rattle.std.specs.Prelude.{◌≡◌, ℕ, zero, suc, ◌+◌, ◌-◌, ◌/◌, ◌%◌, ◌^◌, ◌<◌, ◌≤◌, Bool, true, false, cond, ◌==◌, List, [], ◌∷◌}
 
 -- task i is in the set
 abbrev pub has : ℕ → ℕ → Bool
@@ -11,3 +11,12 @@ pub record NextIn (set low r : ℕ) : Type 0 where
   pub onward : low ≤ 32 → low ≤ r
   pub skipped : (k : ℕ) → low ≤ k → k < r → has set k ≡ false
   pub member : r < 32 → has set r ≡ true
+
+-- the members among the n numbers from `low` on, rising
+abbrev pub rising : (set low n : ℕ) → List ℕ
+rising set low zero = []
+rising set low (suc n) = cond (has set low) (low ∷ rising set (low + 1) n) (rising set (low + 1) n)
+
+-- the members from `low` on, rising
+abbrev pub members_from : (set low : ℕ) → List ℕ
+members_from set low = rising set low (32 - low)

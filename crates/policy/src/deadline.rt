@@ -6,7 +6,7 @@ use crate::policy::Policy;
 use task::task::Task;
 
 /// Earliest deadline first: the key is D − age, and the smaller is before.
-#[derive(Clone, Copy)]
+#[derive(Clone, Copy, Debug, PartialEq, Eq)]
 pub struct Deadline;
 
 impl Policy for Deadline {

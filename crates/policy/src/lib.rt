@@ -18,5 +18,7 @@ pub mod policy;
 pub mod rank;
 /// The instants that ages count from.
 pub mod release;
+/// The set of the tasks that pass a test.
+pub mod sets;
 /// The members of a set of tasks, one after another.
 pub mod walk;

@@ -5,7 +5,7 @@ use crate::policy::Policy;
 use task::task::Task;
 
 /// Fixed priorities: the key is the task's rank, and the smaller is before.
-#[derive(Clone, Copy)]
+#[derive(Clone, Copy, Debug, PartialEq, Eq)]
 pub struct Rank;
 
 impl Policy for Rank {

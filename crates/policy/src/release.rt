@@ -18,6 +18,7 @@ fn latest_release(place: &Option<Task>, t: u64) -> u64
                 t - u64::from(age(task, t))
             }
         }
+        // stays: an instant of which nothing is said, since an Option would be unpacked for each job of a slot.
         None => 0,
     }
 }
@@ -26,9 +27,10 @@ fn latest_release(place: &Option<Task>, t: u64) -> u64
 pub fn latest_releases(tasks: &[Option<Task>; 32], t: u64) -> [u64; 32]
     ensures { (i : ℕ) → i < 32 → Latest (entry_at tasks.now i) t (slice_index result i) }
 {
-    let mut released = [0u64; 32];
-    for i in 0..32 {
-        released[i] = latest_release(&tasks[i], t);
-    }
-    released
+    std::array::from_fn(
+        |i| -> u64
+            requires { i < 32 }
+            ensures { Latest (entry_at tasks.entry.now i) t result }
+        { latest_release(&tasks[i], t) },
+    )
 }

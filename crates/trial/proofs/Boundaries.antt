@@ -1,39 +1,19 @@
 -- How a slot ends: which jobs miss, and whether the new instant is a boundary.
-use Rattle.std.proofs.Common.{◌≡◌, ℕ, ◌+◌, ◌/◌, ◌%◌, ◌^◌, ◌<◌, Bool, true, false, sym, ap, ◌∙◌, subst, ⊎_elim, arith}
-use native.Mathlib.Nat.{zero-div}
-use Rattle.std.proofs.lemmas.Bool.{cases_Bool}
+use Rattle.std.proofs.Common.{◌≡◌, ℕ, ◌+◌, ◌<◌, Bool, sym, ap, ◌∙◌, subst, arith}
 use Rattle.schedule.specs.Plan.{Plan}
-use Rattle.policy.specs.Sets.{bit, left_of, word_of}
-use Rattle.policy.proofs.Words.{word_bit}
+use Rattle.policy.specs.Members.{NextIn}
+use Rattle.policy.specs.Sets.{left_of, word_of}
+use Rattle.policy.proofs.Words.{word_has}
 use Rattle.trial.specs.declared.trial.Trial.{Trial}
 use Rattle.trial.specs.Slots.{Passes, Marked}
 use Rattle.trial.specs.Trials.{NonePasses, Lowest, Equal, Moved, Between, Passed, Repeated}
 
-bit_is : (test : ℕ → Bool) (word i : ℕ) → word ≡ word_of test 32 → i < 32 → (word / 2 ^ i) % 2 ≡ bit (test i)
-bit_is test word i e h = ap (λ w. (w / 2 ^ i) % 2) e ∙ word_bit test 32 i h
+-- the lowest member of the word of those that pass is the lowest that passes
+pub none_passes : (test : ℕ → Bool) (word : ℕ) → word ≡ word_of test 32 → NextIn word 0 32 → NonePasses test
+none_passes test word e n i h = sym (word_has test word i e h) ∙ n.skipped i (omega arith) h
 
-pub bit_on : (test : ℕ → Bool) (word i : ℕ) → word ≡ word_of test 32 → i < 32 → (word / 2 ^ i) % 2 ≡ 1 → test i ≡ true
-bit_on test word i e h on =
-    ⊎_elim
-    (λ (t : test i ≡ true). t)
-    (λ (f : test i ≡ false). absurd (let z : bit (test i) ≡ 0 = ap bit f in omega (arith, bit_is test word i e h, on)))
-    (cases_Bool (test i))
-
-pub bit_off : (test : ℕ → Bool) (word i : ℕ) → word ≡ word_of test 32 → i < 32 → ((word / 2 ^ i) % 2 ≡ 1 → ⊥) → test i ≡ false
-bit_off test word i e h off =
-    ⊎_elim
-    (λ (t : test i ≡ true). absurd (off (bit_is test word i e h ∙ ap bit t)))
-    (λ (f : test i ≡ false). f)
-    (cases_Bool (test i))
-
-pub none_on : (test : ℕ → Bool) (word : ℕ) → word ≡ word_of test 32 → ((j : ℕ) → j < 32 → (word / 2 ^ j) % 2 ≡ 1 → ⊥) → NonePasses test
-none_on test word e off i h = bit_off test word i e h (off i h)
-
-pub none_at_zero : (test : ℕ → Bool) (word : ℕ) → word ≡ word_of test 32 → word ≡ 0 → NonePasses test
-none_at_zero test word e z = none_on test word e (λ j h on. let q : (word / 2 ^ j) % 2 ≡ 0 = ap (λ w. (w / 2 ^ j) % 2) z ∙ ap (λ w. w % 2) (zero-div (2 ^ j)) in omega arith)
-
-pub lowest_on : (test : ℕ → Bool) (word i : ℕ) → word ≡ word_of test 32 → i < 32 → (word / 2 ^ i) % 2 ≡ 1 → ((j : ℕ) → j < i → (word / 2 ^ j) % 2 ≡ 1 → ⊥) → Lowest test i
-lowest_on test word i e h on off = (h, bit_on test word i e h on, λ j l. bit_off test word j e (omega arith) (off j l))
+pub lowest_passes : (test : ℕ → Bool) (word i : ℕ) → word ≡ word_of test 32 → NextIn word 0 i → i < 32 → Lowest test i
+lowest_passes test word i e n h = (h, sym (word_has test word i e h) ∙ n.member h, λ j l. sym (word_has test word j e (omega arith)) ∙ n.skipped j (omega arith) l)
 
 module _ (p : Plan) (a : Trial) (missed : ℕ) (b : Trial) (s : Passes p a missed b) where
   pub between_now : (b.instant ≡ b.next → ⊥) → Between a b

@@ -1,7 +1,10 @@
 pub mod Ages
+pub mod Counted
 pub mod Periods
 pub mod Slotwise
 pub mod Watching
+pub mod Giving
+pub mod Renewing
 pub mod Boundaries
 pub mod Tasks
 pub mod Standing

@@ -2,6 +2,7 @@
 use Rattle.std.proofs.Common.{◌≡◌, ℕ, ◌+◌, ◌-◌, ◌<◌, ◌≤◌, Bool, true, false, cond, ◌&&◌, ltb, List, is_some, Option, sym, refl, ap, ◌∙◌, ap₂, arith}
 use Rattle.std.proofs.lemmas.Bool.{ltb-true, lt-ltb}
 use Rattle.schedule.specs.Plan.{Plan, plain}
+use Rattle.schedule.proofs.Bounds.{slot_less}
 use Rattle.schedule.specs.Counting.{count_below}
 use Rattle.schedule.specs.Schedule.{opened, has_cpu, stands_ahead}
 use Rattle.task.specs.declared.entry.Entry.{Entry}
@@ -30,10 +31,6 @@ thinner true true false h = refl
 thinner true false false h = refl
 thinner false x false h = refl
 
-no_more : (b : Bool) (l : ℕ) → cond b (l - 1) l ≤ l
-no_more true l = omega arith
-no_more false l = omega arith
-
 module _ {K : Type 0} (keyed : Entry → ℕ → K) (le : K → K → Bool) (at : ℕ → Option Entry) (a : Trial) where
   abbrev plan : Plan
   plan = plan_of keyed le at
@@ -51,7 +48,7 @@ module _ {K : Type 0} (keyed : Entry → ℕ → K) (le : K → K → Bool) (at 
     still_one i h =
         ap₂ (λ x r. x && ltb 0 r) (word_has (is_active at a.left) on i on_is h) (sym (w i h))
         ∙ thinner (is_some (at i)) (ltb 0 (left_of a.left i)) (ltb 0 (left_of end i))
-        (λ e. lt-ltb 0 (left_of a.left i) (omega (arith, ltb-true 0 (left_of end i) e, w i h, no_more (has on i && has ran i) (left_of a.left i))))
+        (λ e. lt-ltb 0 (left_of a.left i) (omega (arith, ltb-true 0 (left_of end i) e, w i h, slot_less (has on i && has ran i) (left_of a.left i))))
 
     pub still_is : (still : ℕ) → still ≡ word_of (λ i. has on i && ltb 0 (worked on ran a.left i)) 32 → still ≡ word_of (is_active at end) 32
     still_is still e = e ∙ word_same (λ i. has on i && ltb 0 (worked on ran a.left i)) (is_active at end) 32 still_one

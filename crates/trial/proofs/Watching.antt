@@ -1,9 +1,10 @@
 -- What a watch says goes on through a calm instant, and where the trial stays.
-use Rattle.std.proofs.Common.{◌≡◌, ℕ, ◌+◌, ◌-◌, ◌%◌, ◌<◌, ◌≤◌, List, get_or, Some, None, Option, sym, ap, ◌∙◌, subst, ⊎_elim, arith}
+use Rattle.std.proofs.Common.{◌≡◌, ℕ, zero, suc, ◌+◌, ◌-◌, ◌<◌, ◌≤◌, List, length, get_or, Some, None, Option, sym, ap, ◌∙◌, subst, ⊎_elim, arith}
 use Rattle.std.proofs.lemmas.Bool.{both_ways, cases_lt}
+use Rattle.std.proofs.lemmas.List.{get_or_default}
 use Rattle.task.specs.declared.entry.Entry.{Entry}
 use Rattle.task.specs.declared.task.Task.{Task}
-use Rattle.task.specs.Tables.{entry_at}
+use Rattle.task.specs.Tables.{entry_of, entry_at}
 use Rattle.policy.specs.Dispatch.{is_active}
 use Rattle.policy.specs.Releases.{Released, Latest}
 use Rattle.policy.specs.Sets.{word_of}
@@ -11,7 +12,7 @@ use Rattle.trial.specs.declared.trial.Trial.{Trial}
 use Rattle.trial.specs.declared.watch.Watch.{Watch}
 use Rattle.trial.specs.Places.{releases, Calm}
 use Rattle.trial.specs.Slots.{Watched, Marked}
-use Rattle.trial.proofs.Ages.{whole_again, release_again}
+use Rattle.trial.proofs.Ages.{release_again}
 
 goes_on : (e : Entry) (t b : ℕ) → Released e t b → Calm (Some e) (t + 1) → Released e (t + 1) b
 goes_on e t b r c =
@@ -31,22 +32,38 @@ pub stays : (o : Option Entry) (t b : ℕ) → Latest o t b → Calm o (t + 1) �
 stays None t b r c = r
 stays (Some e) t b r c = goes_on e t b r c
 
--- a period after the latest release is the latest
-pub renewed_there : (e : Entry) (t b : ℕ) → 1 ≤ e.period → 0 < t → Released e (t - 1) b → b < t → e.period ≤ t - b → Released e t t
-renewed_there e t b p h r l m =
-    let at : b + e.period ≡ t = omega (arith, r.recent) in
-    record {
-      begun = omega (arith, r.begun);
-      whole = ap (λ n. (n - e.offset) % e.period) (sym at) ∙ whole_again e (t - 1) b r;
-      recent = omega arith;
-      first = λ q. absurd (omega arith);
-      short = r.short;
-    }
+-- and so through as many as are calm
+stays_long : (o : Option Entry) (s b d : ℕ) → Latest o s b → ((v : ℕ) → s < v → v ≤ s + d → Calm o v) → Latest o (s + d) b
+stays_long o s b zero r c = let at : s ≡ s + 0 = omega arith in let L : ℕ → Type 0 = λ t. Latest o t b in subst L at r
+stays_long o s b (suc d) r c =
+    let L : ℕ → Type 0 = λ t. Latest o t b in
+    let at : s + d + 1 ≡ s + suc d = omega arith in
+    subst L at (stays o (s + d) b (stays_long o s b d r (λ v l m. c v l (omega arith))) (c (s + d + 1) (omega arith) (omega arith)))
+
+pub stays_until : (o : Option Entry) (s t b : ℕ) → s ≤ t → Latest o s b → ((v : ℕ) → s < v → v ≤ t → Calm o v) → Latest o t b
+stays_until o s t b h r c =
+    let at : s + (t - s) ≡ t = omega arith in
+    let L : ℕ → Type 0 = λ t. Latest o t b in
+    subst L at (stays_long o s b (t - s) r (λ v l m. c v l (omega arith)))
+
+-- the latest releases that a watch has are so still before the next event
+pub latest_before : (w : Watch) (i t : ℕ) → i < 32 → w.since ≤ t → t < w.calm → Latest (entry_at w.tasks.now i) t (get_or w.released i 0)
+latest_before w i t h l m = stays_until (entry_at w.tasks.now i) w.since t (get_or w.released i 0) l (w.latest i h) (λ v p q. w.calm_is i h v p (omega arith))
+
+pub released_before : (w : Watch) (i : ℕ) (e : Entry) → i < 32 → entry_at w.tasks.now i ≡ Some e → Released e (w.calm - 1) (get_or w.released i 0)
+released_before w i e h is =
+    let L : Option Entry → Type 0 = λ o. Latest o (w.calm - 1) (get_or w.released i 0) in
+    subst L is (latest_before w i (w.calm - 1) h (omega (arith, w.onward)) (omega (arith, w.onward)))
+
+-- the entry of what was read in a place
+pub entry_read : (tasks : List (Option Task)) (i : ℕ) (d o : Option Task) → i < length tasks → get_or tasks i d ≡ o → entry_at tasks i ≡ entry_of o
+entry_read tasks i d o h e = ap entry_of (get_or_default tasks i None d h ∙ e)
 
 pub watched_still : (tasks : List (Option Task)) (a b : Trial) (w : Watch) → Watched tasks a w → Marked a b → Watched tasks b w
 watched_still tasks a b w s k =
     record {
-      calm_is = λ i h v l m. s.calm_is i h v (omega (arith, k.instant_kept)) m;
+      tasks_are = s.tasks_are;
+      begun = omega (arith, s.begun, k.instant_kept);
+      not_over = omega (arith, s.not_over, k.instant_kept);
       active_is = s.active_is ∙ ap (λ xs. word_of (is_active (entry_at tasks) xs) 32) (sym k.left_kept);
-      latest = λ i h. let L : ℕ → Type 0 = λ t. Latest (entry_at tasks i) t (get_or w.released i 0) in subst L (sym k.instant_kept) (s.latest i h);
     }

@@ -1,27 +1,26 @@
 -- The parts of a slot: rule 3, the new instant, and the boundary that it may be.
-use Rattle.std.specs.Prelude.{◌≡◌, ℕ, ◌+◌, ◌-◌, ◌<◌, cond, ◌&&◌, List, Option, slice_index}
+use Rattle.std.specs.Prelude.{◌≡◌, ℕ, ◌+◌, ◌-◌, ◌<◌, ◌≤◌, cond, ◌&&◌, List, Option}
 use Rattle.schedule.specs.Plan.{Plan}
 use Rattle.schedule.specs.Schedule.{has_cpu}
 use Rattle.task.specs.declared.task.Task.{Task}
 use Rattle.task.specs.Tables.{entry_at}
 use Rattle.policy.specs.Dispatch.{is_active}
 use Rattle.policy.specs.Members.{has}
-use Rattle.policy.specs.Releases.{Latest}
 use Rattle.policy.specs.Sets.{left_of, word_of}
 use Rattle.trial.specs.declared.trial.Trial.{Trial}
 use Rattle.trial.specs.declared.watch.Watch.{Watch}
-use Rattle.trial.specs.Places.{CalmUntil}
 use Rattle.trial.specs.Trials.{after_slot, missing, Moved}
 
 -- what is left of task i's job, where each active job of the set `ran` has lost 1
 abbrev pub worked : (active ran : ℕ) → List ℕ → ℕ → ℕ
 worked active ran left i = cond (has active i && has ran i) (left_of left i - 1) (left_of left i)
 
--- what a watch says of a trial is so
+-- a watch is one of these tasks, and of the trial's instant and its active jobs
 pub record Watched (tasks : List (Option Task)) (a : Trial) (w : Watch) : Type 0 where
-  pub calm_is : CalmUntil tasks a.instant w.calm
+  pub tasks_are : w.tasks.now ≡ tasks
+  pub begun : w.since ≤ a.instant
+  pub not_over : a.instant < w.calm
   pub active_is : w.active ≡ word_of (is_active (entry_at tasks) a.left) 32
-  pub latest : (i : ℕ) → i < 32 → Latest (entry_at tasks i) a.instant (slice_index w.released i)
 
 -- the boundaries are as they were
 pub record SameBoundaries (a b : Trial) : Type 0 where

@@ -15,6 +15,7 @@ fn gcd(a: u32, b: u32) -> u32
 {
     let mut x = a;
     let mut y = b;
+    // stays: Euclid's loop goes from rest to rest, and counts nothing.
     while y != 0 {
         let rest = x % y;
         x = y;
@@ -28,8 +29,8 @@ fn lcm(a: u32, b: u32) -> Option<u32>
     requires { (0 < a) × (0 < b) }
     ensures { elim result [ None ↦ 10000000 < least_multiple a b | Some l ↦ (l ≡ least_multiple a b) × (l ≤ 10000000) ] }
 {
-    let multiple = (a / gcd(a, b)) as u64 * b as u64;
-    if multiple > LONGEST_HYPERPERIOD as u64 {
+    let multiple = u64::from(a / gcd(a, b)) * u64::from(b);
+    if multiple > u64::from(LONGEST_HYPERPERIOD) {
         return None;
     }
     Some(multiple as u32)
@@ -39,27 +40,17 @@ fn lcm(a: u32, b: u32) -> Option<u32>
 pub fn count(tasks: &[Option<Task>; 32]) -> u32
     ensures { result ≡ count_below 32 (λ i. is_some (entry_at tasks.now i)) }
 {
-    let mut n: u32 = 0;
-    for i in 0..32 {
-        if tasks[i].is_some() {
-            n += 1;
-        }
-    }
-    n
+    tasks.iter().filter(|place| place.is_some()).count() as u32
 }
 
 /// Omax, the largest offset.
 pub fn last_offset(tasks: &[Option<Task>; 32]) -> u32
     ensures { (result ≡ table_offset (entry_at tasks.now)) × (result ≤ 1000000) }
 {
-    let mut largest: u32 = 0;
-    for i in 0..32 {
-        let offset = match &tasks[i] {
-            Some(task) => task.offset(),
-            None => 0,
-        };
-        if largest < offset {
-            largest = offset;
+    let mut largest = 0;
+    for place in tasks {
+        if let Some(task) = place {
+            largest = task.offset().max(largest);
         }
     }
     largest
@@ -71,7 +62,8 @@ fn period_in(place: &Option<Task>) -> u32
     ensures positive { 0 < result }
 {
     match place {
-        Some(task) => task.period() as u32,
+        Some(task) => u32::from(task.period()),
+        // stays: 1, which changes no least common multiple.
         None => 1,
     }
 }
@@ -81,11 +73,8 @@ pub fn hyperperiod(tasks: &[Option<Task>; 32]) -> Option<u32>
     ensures { elim result [ None ↦ 10000000 < table_period (entry_at tasks.now) | Some l ↦ (l ≡ table_period (entry_at tasks.now)) × (l ≤ 10000000) ] }
 {
     let mut multiple: u32 = 1;
-    for i in 0..32 {
-        match lcm(multiple, period_in(&tasks[i])) {
-            Some(l) => multiple = l,
-            None => return None,
-        }
+    for place in tasks {
+        multiple = lcm(multiple, period_in(place))?;
     }
     Some(multiple)
 }

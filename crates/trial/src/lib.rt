@@ -4,7 +4,7 @@
 
 /// The largest offset and the hyperperiod of a table.
 pub mod cycle;
-/// The latest releases, and until when nothing happens.
+/// The next event of a task.
 pub mod events;
 /// Rules 1 and 2.
 pub mod opening;

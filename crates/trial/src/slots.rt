@@ -6,14 +6,13 @@ ghost use Rattle.policy.specs.Sets.{word_of};
 ghost use Rattle.trial.specs.Trials.{Equal, Runs};
 ghost use Rattle.trial.specs.Slots.{Watched, Ticked, Passes, Marked};
 
-use crate::events::{next_event, renew};
-use crate::opening::{missed_set, open};
 use crate::trial::{Outcome, Trial};
 use crate::watch::Watch;
 use crate::working::work;
-use policy::dispatch::{active_set, running_among};
+use policy::dispatch::{Slot, active_set};
 use policy::policy::Policy;
 use policy::release::latest_releases;
+use policy::walk::members_of;
 use task::task::Task;
 
 /// No trial comes undecided to this instant.
@@ -21,20 +20,21 @@ pub const LAST_INSTANT: u64 = 1_000_000_000_000_000;
 
 impl Trial {
     /// Rule 3: the slot from the trial's instant. Answers the jobs that are active still.
-    fn tick<P: Policy>(&mut self, policy: &P, tasks: &[Option<Task>; 32], watch: &Watch) -> u32
+    fn tick<P: Policy>(&mut self, policy: &P, watch: &Watch) -> u32
         requires instant { self.old.instant < 1000000000000000 }
-        requires watched { Watched tasks.now self.old watch.now }
-        ensures ticked { Ticked (plan_of (P.Policy.keyed policy.now) (P.Policy.precedes policy.now) (entry_at tasks.now)) self.old self.new }
-        ensures still { result ≡ word_of (is_active (entry_at tasks.now) self.new.left) 32 }
+        requires watched { Watched watch.now.tasks.now self.old watch.now }
+        ensures ticked { Ticked (plan_of (P.Policy.keyed policy.now) (P.Policy.precedes policy.now) (entry_at watch.now.tasks.now)) self.old self.new }
+        ensures still { result ≡ word_of (is_active (entry_at watch.now.tasks.now) self.new.left) 32 }
     {
-        let ran = running_among(
+        let slot = Slot {
             policy,
-            tasks,
-            &watch.released,
-            watch.active,
-            self.instant,
-            self.cpus,
-        );
+            tasks: watch.tasks,
+            released: &watch.released,
+            jobs: watch.active,
+            instant: self.instant,
+            cpus: self.cpus,
+        };
+        let ran = slot.running();
         let still = work(&mut self.left, watch.active, ran);
         self.ran = ran;
         self.instant += 1;
@@ -42,21 +42,20 @@ impl Trial {
     }
 
     /// One slot and the instant after it. Answers the tasks that miss there, a bit for each.
-    fn pass<P: Policy>(&mut self, policy: &P, tasks: &[Option<Task>; 32], watch: &mut Watch) -> u32
+    fn pass<P: Policy>(&mut self, policy: &P, watch: &mut Watch) -> u32
         requires instant { self.old.instant < 1000000000000000 }
-        requires watched { Watched tasks.now self.old watch.old }
-        ensures passes { Passes (plan_of (P.Policy.keyed policy.now) (P.Policy.precedes policy.now) (entry_at tasks.now)) self.old result self.new }
-        ensures watched { Watched tasks.now self.new watch.new }
+        requires watched { Watched watch.old.tasks.now self.old watch.old }
+        ensures passes { Passes (plan_of (P.Policy.keyed policy.now) (P.Policy.precedes policy.now) (entry_at watch.old.tasks.now)) self.old result self.new }
+        ensures watched { Watched watch.old.tasks.now self.new watch.new }
     {
-        watch.active = self.tick(policy, tasks, watch);
+        watch.active = self.tick(policy, watch);
         if self.instant < watch.calm {
             return 0;
         }
-        let missed = missed_set(tasks, &watch.released, &self.left, self.instant);
-        open(tasks, &watch.released, &mut self.left, self.instant);
-        renew(tasks, &mut watch.released, self.instant);
-        watch.calm = next_event(tasks, &watch.released, self.instant);
-        watch.active = active_set(tasks, &self.left);
+        let missed = watch.missed_set(&self.left);
+        watch.open(&mut self.left);
+        watch.renew();
+        watch.active = active_set(watch.tasks, &self.left);
         missed
     }
 
@@ -72,37 +71,39 @@ impl Trial {
         requires { self.old.next ≤ 1000000000000000 }
         ensures { Marked self.old self.new }
     {
-        let configuration = self.left;
-        self.saved = configuration;
+        self.saved = self.left;
         self.last = self.next;
-        self.next += self.span as u64;
+        self.next += u64::from(self.span);
     }
 
     /// Up to `n` slots, left at the first instant that decides.
     pub fn run<P: Policy>(&mut self, policy: &P, tasks: &[Option<Task>; 32], n: u32) -> Outcome
         ensures { Runs (plan_of (P.Policy.keyed policy.now) (P.Policy.precedes policy.now) (entry_at tasks.now)) self.old n result self.new }
     {
+        // so that the instant after this one is a number, too
+        if self.instant >= LAST_INSTANT {
+            return Outcome::Ran;
+        }
         let mut outcome = Outcome::Ran;
         let mut watch = Watch {
-            calm: 0,
-            active: active_set(tasks, &self.left),
+            tasks,
             released: latest_releases(tasks, self.instant),
+            since: self.instant,
+            calm: self.instant + 1,
+            active: active_set(tasks, &self.left),
         };
-        'slots: for k in 0..n {
+        'slots: for _ in 0..n {
             if self.instant >= LAST_INSTANT {
                 break 'slots;
             }
-            let missed = self.pass(policy, tasks, &mut watch);
-            if missed != 0 {
-                for i in 0..32u32 {
-                    if (missed >> i) % 2 == 1 {
-                        outcome = Outcome::Missed(i as u8);
-                        break 'slots;
-                    }
-                }
+            let missed = self.pass(policy, &mut watch);
+            // stays: a listed form (docs/DECISIONS.md, Language forms), an inner loop that leaves the outer one by its label.
+            for i in members_of(missed) {
+                outcome = Outcome::Missed(i as u8);
+                break 'slots;
             }
             if self.instant == self.next {
-                if (self.start as u64) < self.next && self.agrees() {
+                if u64::from(self.start) < self.next && self.agrees() {
                     outcome = Outcome::Agreed(self.last, self.next);
                     break 'slots;
                 }

@@ -22,11 +22,12 @@ fn first_job(place: &Option<Task>) -> u16
 fn first_jobs(tasks: &[Option<Task>; 32]) -> [u16; 32]
     ensures { (i : ℕ) → i < 32 → left_of result i ≡ opens (entry_at tasks.now i) 0 0 }
 {
-    let mut left = [0u16; 32];
-    for i in 0..32 {
-        left[i] = first_job(&tasks[i]);
-    }
-    left
+    std::array::from_fn(
+        |i| -> u16
+            requires { i < 32 }
+            ensures { result ≡ opens (entry_at tasks.entry.now i) 0 0 }
+        { first_job(&tasks[i]) },
+    )
 }
 
 impl Trial {
@@ -44,7 +45,7 @@ impl Trial {
             span,
             instant: 0,
             last: 0,
-            next: next as u64,
+            next: u64::from(next),
             left,
             saved: left,
             ran: 0,

@@ -13,6 +13,7 @@ pub struct Trial {
     /// The boundary to come.
     pub(crate) next: u64,
     /// What is left of each task's job.
+    // stays: arrays of their own, since a boundary copies the first whole and compares the two.
     pub(crate) left: [u16; 32],
     /// The configuration at the latest boundary.
     pub(crate) saved: [u16; 32],
@@ -21,7 +22,8 @@ pub struct Trial {
 }
 
 /// What a run of slots came to.
-#[derive(Clone, Copy)]
+// stays: three cases side by side. An Option of the last two would be matched in two layers.
+#[derive(Clone, Copy, PartialEq, Eq, Debug)]
 pub enum Outcome {
     /// Nothing was decided.
     Ran,

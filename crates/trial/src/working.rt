@@ -3,7 +3,7 @@ ghost use Rattle.policy.specs.Members.{has};
 ghost use Rattle.policy.specs.Sets.{left_of, word_of};
 ghost use Rattle.trial.specs.Slots.{worked};
 
-use policy::walk::next_in;
+use policy::walk::members_of;
 
 /// Each active job of the set `ran` loses 1. Answers the jobs that are active still.
 pub(crate) fn work(left: &mut [u16; 32], active: u32, ran: u32) -> u32
@@ -11,14 +11,12 @@ pub(crate) fn work(left: &mut [u16; 32], active: u32, ran: u32) -> u32
     ensures still { result ≡ word_of (λ i. has active i && nat_lt 0 (worked active ran left.old i)) 32 }
 {
     let mut still: u32 = 0;
-    let mut i = next_in(active, 0);
-    while i < 32 {
+    for i in members_of(active) {
         let rest = left[i].saturating_sub(((ran >> i) % 2) as u16);
         left[i] = rest;
         if rest > 0 {
             still |= 1 << i;
         }
-        i = next_in(active, i + 1);
     }
     still
 }

@@ -11,8 +11,8 @@ returns g c =
     let laws = g.met.P.Policy in
     let a = c.args in
     let at = entry_at a.tasks.now in
-    let same = c.running_among.ensures a.left.now (known_at at a.left.now c.active_set-jobs.result c.latest_releases-released.result a.instant c.active_set-jobs.ensures c.latest_releases-released.ensures) in
+    let same = c.running.ensures a.left.now (known_at at a.left.now c.active_set-jobs.result c.latest_releases.result a.instant c.active_set-jobs.ensures c.latest_releases.ensures) in
     record {
       set = same;
-      count = as_many_run (p.keyed a.policy.now) (p.precedes a.policy.now) (laws.total a.policy.now) (laws.transitive a.policy.now) at a.cpus a.instant (left_of a.left.now) c.running_among.result same;
+      count = as_many_run (p.keyed a.policy.now) (p.precedes a.policy.now) (laws.total a.policy.now) (laws.transitive a.policy.now) at a.cpus a.instant (left_of a.left.now) c.running.result same;
     }

@@ -1,6 +1,8 @@
-use Rattle.std.proofs.Common.{◌≡◌, ℕ, ◌/◌, ◌%◌, ◌^◌, ◌<◌}
+use Rattle.std.proofs.Common.{◌≡◌}
 use Rattle.task.specs.Tables.{entry_at}
+use Rattle.policy.specs.Members.{NextIn}
 use Rattle.policy.specs.Plans.{plan_of}
+use Rattle.policy.proofs.Rising.{first, Along}
 use Rattle.trial.specs.declared.trial.Outcome.TheVariants.{Ran}
 use Rattle.trial.specs.Slots.{Watched}
 use Rattle.trial.specs.Trials.{Undecided}
@@ -9,9 +11,14 @@ use Rattle.trial.proofs.trial.Trial.run.Given as goal
 abbrev pub invariant-slots : goal.invariant-slots
 invariant-slots g l =
     let p = g.P.Policy in
-    Undecided (plan_of (p.keyed l.policy) (p.precedes l.policy) (entry_at l.tasks)) l.initial.self l.k l.self
+    Undecided (plan_of (p.keyed l.policy) (p.precedes l.policy) (entry_at l.tasks)) l.initial.self l.counter l.self
     × Watched l.tasks l.self l.watch
     × (l.outcome ≡ Ran)
 
 abbrev pub invariant-loop-i : goal.invariant-loop-i
-invariant-loop-i g l = ((j : ℕ) → j < l.i → (l.missed / 2 ^ j) % 2 ≡ 1 → ⊥) × (l.outcome ≡ Ran)
+invariant-loop-i g l =
+    (goal.iterator-loop-i g).can_next l.i-iterator
+    × (goal.iterator-loop-i g).is_finite l.i-iterator
+    × Along l.missed l.i-iterator
+    × NextIn l.missed 0 (first l.i-iterator)
+    × (l.outcome ≡ Ran)

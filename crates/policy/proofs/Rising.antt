@@ -1,0 +1,141 @@
+-- The list of the members of a set, and a loop that goes along it.
+use Rattle.std.proofs.Common.{◌*◌, ◌%◌, ◌^◌, ◌≢◌, eqb, bit_and, w32, ◌≡◌, ℕ, zero, suc, ◌+◌, ◌-◌, ◌<◌, ◌≤◌, Bool, true, false, cond, List, [], ◌∷◌, drop, sym, refl, ap, ◌∙◌, ⊎_elim, arith}
+use mir.Val.{bits}
+use Rattle.std.specs.Int.{bit_not}
+use Rattle.std.proofs.lemmas.Nat.Bits.{bit_at_clear_same, bit_at_clear_other}
+use Rattle.std.proofs.lemmas.Bool.{cases_lt}
+use Rattle.policy.specs.Members.{has, NextIn, rising, members_from}
+
+-- the first of a list of members, or 32 where there is none
+abbrev pub first : List ℕ → ℕ
+first [] = 32
+first (i ∷ rest) = i
+
+module _ (set : ℕ) where
+  -- numbers that are no members are passed over
+  pub passed_over : (d low n : ℕ) → ((k : ℕ) → low ≤ k → k < low + d → has set k ≡ false) → rising set low (d + n) ≡ rising set (low + d) n
+  passed_over zero low n h =
+      let e : 0 + n ≡ n = omega arith in
+      let f : low + 0 ≡ low = omega arith in
+      rw (e, f) refl
+  passed_over (suc d) low n h =
+      let e : suc d + n ≡ suc (d + n) = omega arith in
+      let f : low + suc d ≡ (low + 1) + d = omega arith in
+      let off : has set low ≡ false = h low (omega arith) (omega arith) in
+      rw (e, f, off) (passed_over d (low + 1) n (λ k l m. h k (omega arith) (omega arith)))
+
+  -- to the next member, or to the end
+  pub none_from : (low : ℕ) → NextIn set low 32 → members_from set low ≡ []
+  none_from low n =
+      let e : 32 - low ≡ (32 - low) + 0 = omega arith in
+      rw e (passed_over (32 - low) low 0 (λ k l m. n.skipped k l (omega arith)))
+
+  pub one_from : (low i : ℕ) → low ≤ 32 → NextIn set low i → i < 32 → members_from set low ≡ i ∷ members_from set (i + 1)
+  one_from low i l n h =
+      let on = n.onward l in
+      let e : 32 - low ≡ (i - low) + suc (32 - (i + 1)) = omega arith in
+      let f : low + (i - low) ≡ i = omega arith in
+      let at : has set i ≡ true = n.member h in
+      let skip = passed_over (i - low) low (suc (32 - (i + 1))) (λ k l m. n.skipped k l (omega arith)) in
+      ap (rising set low) e ∙ (skip ∙ (rw f (rw at refl)))
+
+  next_or_later : (n low : ℕ) → low + suc n ≡ 32 → (b : Bool) → has set low ≡ b → NextIn set (low + 1) (first (rising set (low + 1) n))
+      → NextIn set low (first (cond b (low ∷ rising set (low + 1) n) (rising set (low + 1) n)))
+  next_or_later n low e true on r =
+      record {
+        within = omega arith;
+        onward = λ h. omega arith;
+        skipped = λ k h l. absurd (omega arith);
+        member = λ h. on;
+      }
+  next_or_later n low e false off r =
+      record {
+        within = r.within;
+        onward = λ h. omega (arith, r.onward (omega arith));
+        skipped = λ k h l.
+            ⊎_elim
+            (λ (u : low < k). r.skipped k (omega arith) l)
+            (λ (u : k ≤ low). let at : k ≡ low = omega arith in rw at off)
+            (cases_lt low k);
+        member = r.member;
+      }
+
+  -- the first of the members from a number on is the next member
+  next_first : (n low : ℕ) → low + n ≡ 32 → NextIn set low (first (rising set low n))
+  next_first zero low e =
+      record {
+        within = omega arith;
+        onward = λ h. omega arith;
+        skipped = λ k h l. absurd (omega arith);
+        member = λ h. absurd (omega arith);
+      }
+  next_first (suc n) low e = next_or_later n low e (has set low) refl (next_first n (low + 1) (omega arith))
+
+  to_next : (low next : ℕ) → low ≤ 32 → NextIn set low next → members_from set low ≡ members_from set next
+  to_next low next h n =
+      let on = n.onward h in
+      let e : 32 - low ≡ (next - low) + (32 - next) = omega (arith, n.within) in
+      let f : low + (next - low) ≡ next = omega arith in
+      ap (rising set low) e ∙ (passed_over (next - low) low (32 - next) (λ k l m. n.skipped k l (omega arith)) ∙ rw f refl)
+
+  -- a loop goes along the members: what is left are those from its first on
+  pub record Along (rest : List ℕ) : Type 0 where
+    pub from_first : rest ≡ members_from set (first rest)
+
+  pub along_from : (low : ℕ) (rest : List ℕ) → low ≤ 32 → rest ≡ members_from set low → Along rest × NextIn set low (first rest)
+  along_from low rest h e =
+      let n = next_first (32 - low) low (omega arith) in
+      rw e (record { from_first = to_next low (first (members_from set low)) h n }, n)
+
+  below : (i : ℕ) (more : List ℕ) → i ∷ more ≡ members_from set i → i < 32
+  below i more e =
+      ⊎_elim
+      (λ (l : i < 32). l)
+      (λ (l : 32 ≤ i). let z : 32 - i ≡ 0 = omega arith in let none : i ∷ more ≡ [] = e ∙ ap (rising set i) z in absurd (cc))
+      (cases_lt i 32)
+
+  -- a turn of the loop, at i, with more to come
+  pub record Turn (i : ℕ) (more : List ℕ) : Type 0 where
+    pub within : i < 32
+    pub member : has set i ≡ true
+    pub next : NextIn set (i + 1) (first more)
+    pub along : Along more
+
+  pub turn : (rest more : List ℕ) (i : ℕ) → Along rest → rest ≡ i ∷ more → Turn i more
+  turn rest more i a e =
+      let all : i ∷ more ≡ members_from set i = sym e ∙ (a.from_first ∙ ap (λ r. members_from set (first r)) e) in
+      let low : i < 32 = below i more all in
+      let n : NextIn set i i = rw (sym all) at (next_first (32 - i) i (omega arith)) in
+      let rest_is : more ≡ members_from set (i + 1) = ap (drop 1) (all ∙ one_from i i (omega arith) n low) in
+      let (along, next) = along_from (i + 1) more (omega arith) rest_is in
+      record { within = low; member = n.member low; next = next; along = along }
+
+others_same : (set rest low n : ℕ) → ((k : ℕ) → low ≤ k → k < low + n → has rest k ≡ has set k) → rising rest low n ≡ rising set low n
+others_same set rest low zero h = refl
+others_same set rest low (suc n) h =
+    let on : has rest low ≡ has set low = h low (omega arith) (omega arith) in
+    let more = others_same set rest (low + 1) n (λ k l m. h k (omega arith) (omega arith)) in
+    rw (on, more) refl
+
+-- without its lowest member, a set has its other members
+module _ (set i : ℕ) (n : NextIn set 0 i) (l : i < 32) where
+  abbrev pub others : ℕ
+  others = bit_and set (bit_not w32 ((1 * 2 ^ i) % 2 ^ bits w32))
+
+  none_below : (k : ℕ) → k ≤ i → has others k ≡ false
+  none_below k h =
+      ⊎_elim
+      (λ (lt : k < i). let ne : k ≢ i = omega arith in ap (λ b. eqb b 1) (bit_at_clear_other w32 set i l k (omega arith) ne) ∙ n.skipped k (omega arith) lt)
+      (λ (ge : i ≤ k). let at : k ≡ i = omega arith in rw at (ap (λ b. eqb b 1) (bit_at_clear_same w32 set i l)))
+      (cases_lt k i)
+
+  same_above : (k : ℕ) → i + 1 ≤ k → k < (i + 1) + (32 - (i + 1)) → has others k ≡ has set k
+  same_above k h m = let ne : k ≢ i = omega arith in ap (λ b. eqb b 1) (bit_at_clear_other w32 set i l k (omega arith) ne)
+
+  pub others_from : members_from set 0 ≡ i ∷ members_from others 0
+  others_from =
+      let e : 32 - 0 ≡ (i + 1) + (32 - (i + 1)) = omega arith in
+      let f : 0 + (i + 1) ≡ i + 1 = omega arith in
+      let skip = passed_over others (i + 1) 0 (32 - (i + 1)) (λ k u m. none_below k (omega arith)) in
+      let same = others_same set others (i + 1) (32 - (i + 1)) same_above in
+      one_from set 0 i (omega arith) n l ∙ ap (λ t. i ∷ t) (sym (ap (rising others 0) e ∙ (skip ∙ rw f same)))

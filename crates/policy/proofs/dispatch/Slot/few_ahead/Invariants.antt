@@ -1,0 +1,10 @@
+-- As many are counted as stand before the job, of those up to the next in the set.
+use Rattle.policy.proofs.Ahead.{Counted}
+use Rattle.policy.proofs.dispatch.Slot.few_ahead.Given as goal
+
+abbrev pub invariant-loop-j : goal.invariant-loop-j
+invariant-loop-j g l =
+    let p = g.P.Policy in
+    (goal.iterator-loop-j g).can_next l.j-iterator
+    × (goal.iterator-loop-j g).is_finite l.j-iterator
+    × Counted p.keyed (p.precedes l.self.policy.now) l.self l.job l.ahead l.j-iterator
