@@ -1,8 +1,6 @@
 pub mod Placing
 pub mod Refusing
-pub mod Tabling
 pub mod Sheeting
-pub mod Going
 pub mod Judging
 pub mod Answering
 pub mod Booking

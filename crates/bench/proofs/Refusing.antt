@@ -1,5 +1,6 @@
 -- When a start is refused.
-use Rattle.std.proofs.Common.{◌≡◌, ℕ, ◌<◌, ◌≤◌, Bool, true, false, cond, eqb, ltb, is_some, Some, None, Option, refl, ap, ◌∙◌}
+use Rattle.std.proofs.Common.{◌≡◌, ℕ, ◌<◌, ◌≤◌, Bool, true, false, cond, eqb, ltb, is_some, Some, None, Option, refl, ap, ◌∙◌, subst}
+use Rattle.std.specs.Option.{ok_or}
 use Rattle.std.proofs.lemmas.Bool.{lt-ltb, le-ltb, eq-eqb, ne_eqb}
 use Rattle.schedule.specs.Counting.{count_below}
 use Rattle.task.specs.declared.entry.Entry.{Entry}
@@ -7,7 +8,9 @@ use Rattle.task.specs.declared.refusal.Refusal.{Refusal}
 use Rattle.task.specs.declared.refusal.Refusal.TheVariants.{CpusOutOfRange, NoTasks, HyperperiodTooLong}
 use Rattle.task.specs.Rules.{outside, cpus_refusal}
 use Rattle.trial.specs.Cycles.{table_period}
-use Rattle.bench.specs.Steps.{start_refusal}
+use Rattle.trial.specs.declared.trial.Trial.{Trial}
+use Rattle.trial.specs.Trials.{Starts}
+use Rattle.bench.specs.Steps.{start_refusal, Begins}
 
 cpus_good : (b : Bool) (o : Option Refusal) → cond b (Some CpusOutOfRange) None ≡ None → cond b (Some CpusOutOfRange) o ≡ o
 cpus_good true o e = absurd (cc)
@@ -24,8 +27,13 @@ module _ (at : ℕ → Option Entry) (m : ℕ) (good : cpus_refusal m ≡ None) 
     after_count : start_refusal false at m ≡ cond (ltb 10000000 (table_period at)) (Some HyperperiodTooLong) None
     after_count = after_cpus ∙ ap (λ b. cond b (Some NoTasks) (cond (ltb 10000000 (table_period at)) (Some HyperperiodTooLong) None)) (ne_eqb _ 0 some)
 
-    pub too_long_refused : 10000000 < table_period at → start_refusal false at m ≡ Some HyperperiodTooLong
+    too_long_refused : 10000000 < table_period at → start_refusal false at m ≡ Some HyperperiodTooLong
     too_long_refused h = after_count ∙ ap (λ b. cond b (Some HyperperiodTooLong) None) (lt-ltb 10000000 (table_period at) h)
 
-    pub start_taken : table_period at ≤ 10000000 → start_refusal false at m ≡ None
+    start_taken : table_period at ≤ 10000000 → start_refusal false at m ≡ None
     start_taken h = after_count ∙ ap (λ b. cond b (Some HyperperiodTooLong) None) (le-ltb 10000000 (table_period at) h)
+
+    -- the trial, or the refusal
+    pub began : (o : Option Trial) → Starts at m o → Begins false at m (ok_or o HyperperiodTooLong)
+    began None h = too_long_refused h
+    began (Some a) f = let S : ℕ → Type 0 = λ n. n ≤ 10000000 in (start_taken (subst S f.span_is f.short), f)

@@ -1,5 +1,6 @@
 -- The lines that are printed.
 use Rattle.std.specs.Prelude.{◌≡◌, ℕ, ◌≤◌, cond, List, ◌++◌, Some, None, Ok, Err, codes, decimal, Option, Result, nat_lt}
+use Rattle.std.specs.List.{flat_map}
 use Rattle.task.specs.declared.refusal.Refusal.{Refusal}
 use Rattle.task.specs.declared.refusal.Refusal.TheVariants.{BufferTooShort}
 use Rattle.task.specs.Refusals.{number_of}
@@ -11,15 +12,33 @@ use Rattle.bench.specs.declared.fault.Fault.TheVariants.{Load, Start}
 use Rattle.bench.specs.declared.verdict.Verdict.{Verdict}
 use Rattle.bench.specs.declared.verdict.Verdict.TheVariants.{Holds, Missed, Running}
 
+-- a word, a number, a space and a number
+abbrev pub number_pair : List ℕ → ℕ → ℕ → List ℕ
+number_pair word a b = ((word ++ decimal a) ++ codes " ") ++ decimal b
+
 -- a word, a number, a space, a number, and the end of the line
 abbrev pub two_numbers : List ℕ → ℕ → ℕ → List ℕ
-two_numbers word a b = (((word ++ decimal a) ++ codes " ") ++ decimal b) ++ codes "\n"
+two_numbers word a b = number_pair word a b ++ codes "\n"
 
 -- a word, a number, and the end of the line
 abbrev pub one_number : List ℕ → ℕ → List ℕ
 one_number word a = (word ++ decimal a) ++ codes "\n"
 
--- the line of a verdict
+-- a space and a number
+abbrev pub spaced : ℕ → List ℕ
+spaced n = codes " " ++ decimal n
+
+-- a word, numbers with a space before each, and the end of the line
+abbrev pub line_of : List ℕ → List ℕ → List ℕ
+line_of word numbers = (word ++ flat_map spaced numbers) ++ codes "\n"
+
+-- how a verdict is printed
+abbrev pub verdict_text : Verdict → List ℕ
+verdict_text (Holds first second) = number_pair (codes "HOLDS ") first second
+verdict_text (Missed task instant) = number_pair (codes "MISSED ") task instant
+verdict_text (Running instant) = codes "RUNNING " ++ decimal instant
+
+-- the line of a verdict: its text, and the end of the line
 abbrev pub verdict_line : Verdict → List ℕ
 verdict_line (Holds first second) = two_numbers (codes "HOLDS ") first second
 verdict_line (Missed task instant) = two_numbers (codes "MISSED ") task instant

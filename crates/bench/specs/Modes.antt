@@ -1,5 +1,5 @@
 -- Where a bench stands, and the verdict that it tells then.
-use Rattle.std.specs.Prelude.{ℕ, Bool, true, false}
+use Rattle.std.specs.Prelude.{ℕ, Bool, true, false, cond, Some, None, Option}
 use Rattle.schedule.specs.Verdict as Theory
 use Rattle.bench.specs.declared.mode.Mode.{Mode}
 use Rattle.bench.specs.declared.mode.Mode.TheVariants.{Open, Running, Held, Missed}
@@ -26,6 +26,10 @@ set_of Open = 0
 set_of (Running a) = a.ran
 set_of (Held a first second) = a.ran
 set_of (Missed a task instant) = a.ran
+
+-- what a started bench tells; an open one tells nothing
+abbrev pub while_started : {A : Type 0} → Mode → A → Option A
+while_started mode a = cond (is_started mode) (Some a) None
 
 -- what each case of a verdict means
 abbrev pub meaning : Verdict → Theory.Verdict

@@ -5,7 +5,7 @@ use sheet::fault::LoadFault;
 use task::refusal::Refusal;
 
 /// Why a sheet is not judged.
-#[derive(Clone, Copy)]
+#[derive(Clone, Copy, PartialEq, Eq, Debug)]
 pub enum Fault {
     /// The sheet was not loaded.
     Load(LoadFault),

@@ -12,7 +12,7 @@ pub mod lines;
 pub mod mode;
 /// The calls that make a bench and fill its table: new, enter, withdraw, load, save.
 pub mod table_calls;
-/// Text in a buffer.
+/// A line of a word and numbers in a buffer.
 pub mod text;
 /// The calls of a trial: start, run, halt, verdict, set, line.
 pub mod trial_calls;

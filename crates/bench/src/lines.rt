@@ -3,7 +3,7 @@ ghost use Rattle.bench.specs.Lines.{verdict_line, fault_line, room_refusal, Writ
 ghost use Rattle.sheet.specs.Buffers.{BeginsWith};
 
 use crate::fault::Fault;
-use crate::text::{put_one, put_two};
+use crate::text::put_line;
 use crate::verdict::Verdict;
 use sheet::fault::LoadFault;
 use task::refusal::Refusal;
@@ -13,44 +13,46 @@ pub const LINE_LENGTH: usize = 48;
 
 impl Verdict {
     /// Writes the verdict's line from the buffer's beginning.
+    // stays: not by Display, whose contract does not say that it succeeds, as a line must.
     pub(crate) fn write(&self, buffer: &mut [u8]) -> usize
         requires { 48 ≤ length buffer.old }
         ensures short { result ≤ 48 }
         ensures text { BeginsWith (verdict_line self.now) buffer.old buffer.new result }
     {
         match self {
-            Verdict::Holds { first, second } => put_two(buffer, b"HOLDS ", *first, *second),
-            Verdict::Missed { task, instant } => put_two(
-                buffer,
-                b"MISSED ",
-                *task as u64,
-                *instant,
-            ),
-            Verdict::Running { instant } => put_one(buffer, b"RUNNING ", *instant),
+            Verdict::Holds { first, second } => put_line(buffer, b"HOLDS", &[*first, *second]),
+            Verdict::Missed { task, instant } => {
+                put_line(buffer, b"MISSED", &[u64::from(*task), *instant])
+            }
+            Verdict::Running { instant } => put_line(buffer, b"RUNNING", &[*instant]),
         }
     }
 }
 
 impl Fault {
     /// Writes the fault's line from the buffer's beginning.
+    // stays: not by Display, as above.
     fn write(&self, buffer: &mut [u8]) -> usize
         requires { 48 ≤ length buffer.old }
         ensures short { result ≤ 48 }
         ensures text { BeginsWith (fault_line self.now) buffer.old buffer.new result }
     {
         match self {
-            Fault::Load(LoadFault::Sheet { fault, place }) => {
-                put_two(buffer, b"REFUSED S ", fault.number() as u64, *place as u64)
-            }
-            Fault::Load(LoadFault::Refused { refusal, place }) => {
-                put_two(
+            Fault::Load(fault) => {
+                let word = match fault {
+                    LoadFault::Sheet { .. } => b"REFUSED S",
+                    LoadFault::Refused { .. } => b"REFUSED T",
+                };
+                // stays: `as`, since no From takes a usize to a u64.
+                put_line(
                     buffer,
-                    b"REFUSED T ",
-                    refusal.number() as u64,
-                    *place as u64,
+                    word,
+                    &[u64::from(fault.number()), fault.place() as u64],
                 )
             }
-            Fault::Start(refusal) => put_one(buffer, b"REFUSED B ", refusal.number() as u64),
+            Fault::Start(refusal) => {
+                put_line(buffer, b"REFUSED B", &[u64::from(refusal.number())])
+            }
         }
     }
 }

@@ -12,7 +12,7 @@ use crate::mode::Mode;
 use policy::policy::Policy;
 use sheet::decode::decode;
 use sheet::encode::encode;
-use sheet::fault::LoadFault;
+use sheet::fault::{LoadFault, Placed};
 use task::entry::Entry;
 use task::refusal::Refusal;
 use task::table::Table;
@@ -33,9 +33,7 @@ impl<P: Policy> Bench<P> {
     pub fn enter(&mut self, entry: Entry) -> Result<(), Refusal>
         ensures { Step P.Policy.keyed P.Policy.precedes (view self.old) (entering entry) result (view self.new) }
     {
-        let Mode::Open = self.mode else {
-            return Err(Refusal::AlreadyStarted);
-        };
+        self.mode.check_open()?;
         self.table.enter(entry)
     }
 
@@ -43,9 +41,7 @@ impl<P: Policy> Bench<P> {
     pub fn withdraw(&mut self, number: u8) -> Result<(), Refusal>
         ensures { Step P.Policy.keyed P.Policy.precedes (view self.old) (withdrawing number) result (view self.new) }
     {
-        let Mode::Open = self.mode else {
-            return Err(Refusal::AlreadyStarted);
-        };
+        self.mode.check_open()?;
         self.table.withdraw(number)
     }
 
@@ -53,12 +49,9 @@ impl<P: Policy> Bench<P> {
     fn take_sheet(&mut self, sheet: &[u8]) -> Result<u8, LoadFault>
         ensures { Loads (view self.old) sheet.now result (view self.new) }
     {
-        let Mode::Open = self.mode else {
-            return Err(LoadFault::Refused {
-                refusal: Refusal::AlreadyStarted,
-                place: 0,
-            });
-        };
+        self.mode
+            .check_open()
+            .map_err(|refusal| Placed { refusal, place: 0 })?;
         let (cpus, table) = decode(sheet)?;
         self.table = table;
         Ok(cpus)
@@ -73,14 +66,11 @@ impl<P: Policy> Bench<P> {
     }
 
     /// Writes the table as a sheet.
-    fn write_sheet(&mut self, cpus: u8, buffer: &mut [u8]) -> Result<usize, Refusal>
-        ensures step { Step P.Policy.keyed P.Policy.precedes (view self.old) (saving cpus buffer.old) (record { answer = result; buffer = buffer.new }) (view self.new) }
-        ensures unchanged { self.new ≡ self.old }
-        ensures decodes { IfOk result (λ n. Decodes (take n buffer.new) (Ok (cpus, entries self.old.table.tasks))) }
+    fn write_sheet(&self, cpus: u8, buffer: &mut [u8]) -> Result<usize, Refusal>
+        ensures step { Step P.Policy.keyed P.Policy.precedes (view self.now) (saving cpus buffer.old) (record { answer = result; buffer = buffer.new }) (view self.now) }
+        ensures decodes { IfOk result (λ n. Decodes (take n buffer.new) (Ok (cpus, entries self.now.table.tasks))) }
     {
-        let Mode::Open = self.mode else {
-            return Err(Refusal::AlreadyStarted);
-        };
+        self.mode.check_open()?;
         encode(&self.table, cpus, buffer)
     }
 

@@ -4,7 +4,7 @@ ghost use Rattle.bench.specs.Calls.{running_for, halting, asking_verdict, asking
 ghost use Rattle.bench.specs.EachCall.{Step};
 ghost use Rattle.bench.specs.Judged.{SinceStart, Judged, JudgedAnswer};
 ghost use Rattle.bench.specs.Law.{Made, Lawful, Law};
-ghost use Rattle.bench.specs.Modes.{is_started, verdict_of, set_of, is_decided};
+ghost use Rattle.bench.specs.Modes.{is_started, while_started, verdict_of, set_of, is_decided};
 ghost use Rattle.bench.specs.Seen.{view};
 ghost use Rattle.bench.specs.Steps.{Starts, RanFor, Lines, plan_for, Begins, decided};
 
@@ -23,43 +23,40 @@ impl Verdict {
     pub fn is_decided(&self) -> bool
         ensures { result ≡ is_decided self.now }
     {
-        match self {
-            Verdict::Holds { .. } | Verdict::Missed { .. } => true,
-            Verdict::Running { .. } => false,
-        }
+        !matches!(self, Verdict::Running { .. })
     }
 }
 
 impl Mode {
-    /// The verdict of a started bench.
-    pub(crate) fn verdict(&self) -> Verdict
-        ensures { result ≡ verdict_of self.now }
+    /// The verdict, unless the bench is open.
+    pub(crate) fn verdict(&self) -> Option<Verdict>
+        ensures { result ≡ while_started self.now (verdict_of self.now) }
     {
         match self {
-            Mode::Open => Verdict::Running { instant: 0 },
-            Mode::Running(trial) => Verdict::Running {
+            Mode::Open => None,
+            Mode::Running(trial) => Some(Verdict::Running {
                 instant: trial.instant(),
-            },
-            Mode::Held(_, first, second) => Verdict::Holds {
+            }),
+            Mode::Held(_, first, second) => Some(Verdict::Holds {
                 first: *first,
                 second: *second,
-            },
-            Mode::Missed(_, task, instant) => Verdict::Missed {
+            }),
+            Mode::Missed(_, task, instant) => Some(Verdict::Missed {
                 task: *task,
                 instant: *instant,
-            },
+            }),
         }
     }
 
-    /// The tasks that ran in the last slot, a bit for each.
-    pub(crate) fn set(&self) -> u32
-        ensures { result ≡ set_of self.now }
+    /// The tasks that ran in the last slot, a bit for each, unless the bench is open.
+    pub(crate) fn set(&self) -> Option<u32>
+        ensures { result ≡ while_started self.now (set_of self.now) }
     {
         match self {
-            Mode::Open => 0,
-            Mode::Running(trial) => trial.ran(),
-            Mode::Held(trial, _, _) => trial.ran(),
-            Mode::Missed(trial, _, _) => trial.ran(),
+            Mode::Open => None,
+            Mode::Running(trial) | Mode::Held(trial, ..) | Mode::Missed(trial, ..) => {
+                Some(trial.ran())
+            }
         }
     }
 }
@@ -69,17 +66,12 @@ impl<P: Policy> Bench<P> {
     fn begin(&self, cpus: u8) -> Result<Trial, Refusal>
         ensures { Begins (is_started self.now.mode) (entry_at self.now.table.tasks) cpus result }
     {
-        let Mode::Open = self.mode else {
-            return Err(Refusal::AlreadyStarted);
-        };
+        self.mode.check_open()?;
         check_cpus(cpus)?;
         if count(self.table.tasks()) == 0 {
             return Err(Refusal::NoTasks);
         }
-        match Trial::start(self.table.tasks(), cpus) {
-            Some(trial) => Ok(trial),
-            None => Err(Refusal::HyperperiodTooLong),
-        }
+        Trial::start(self.table.tasks(), cpus).ok_or(Refusal::HyperperiodTooLong)
     }
 
     /// Puts the bench at instant 0, on so many CPUs.
@@ -87,6 +79,7 @@ impl<P: Policy> Bench<P> {
         ensures { Starts (view self.old) cpus result (view self.new) }
     {
         let outcome = self.begin(cpus);
+        // stays: a listed form (docs/DECISIONS.md, Language forms), a match on what came of it and on the mode.
         match (outcome, &mut self.mode) {
             (Ok(trial), mode) => {
                 *mode = Mode::Running(trial);
@@ -102,6 +95,7 @@ impl<P: Policy> Bench<P> {
         ensures table { self.new.table ≡ self.old.table }
         ensures mode { self.new.mode ≡ decided outcome self.old.mode }
     {
+        // stays: the same listed form.
         match (outcome, &mut self.mode) {
             (Outcome::Missed(task), Mode::Running(trial)) => {
                 let ended = *trial;
@@ -120,12 +114,11 @@ impl<P: Policy> Bench<P> {
         ensures { RanFor P.Policy.keyed P.Policy.precedes (view self.old) n result (view self.new) }
     {
         let outcome = match &mut self.mode {
-            Mode::Open => return Err(Refusal::NotStarted),
             Mode::Running(trial) => trial.run(&self.policy, self.table.tasks(), n),
             _ => Outcome::Ran,
         };
         self.decide(outcome);
-        Ok(self.mode.verdict())
+        self.mode.verdict().ok_or(Refusal::NotStarted)
     }
 
     /// Makes n slots, but stops at the first instant whose verdict is not "running"; none on a decided bench. Answers the
@@ -142,6 +135,7 @@ impl<P: Policy> Bench<P> {
     pub fn halt(&mut self) -> Result<(), Refusal>
         ensures { Step P.Policy.keyed P.Policy.precedes (view self.old) halting result (view self.new) }
     {
+        // stays: a listed form (docs/DECISIONS.md, Language forms), a match on the mode that is changed.
         match &mut self.mode {
             Mode::Open => Err(Refusal::NotStarted),
             mode => {
@@ -155,10 +149,7 @@ impl<P: Policy> Bench<P> {
     fn told(&self) -> Result<Verdict, Refusal>
         ensures { Step P.Policy.keyed P.Policy.precedes (view self.now) asking_verdict result (view self.now) }
     {
-        if let Mode::Open = self.mode {
-            return Err(Refusal::NotStarted);
-        }
-        Ok(self.mode.verdict())
+        self.mode.verdict().ok_or(Refusal::NotStarted)
     }
 
     /// The verdict.
@@ -174,10 +165,8 @@ impl<P: Policy> Bench<P> {
     fn shown(&self) -> Result<(u32, u32), Refusal>
         ensures { Step P.Policy.keyed P.Policy.precedes (view self.now) asking_set result (view self.now) }
     {
-        if let Mode::Open = self.mode {
-            return Err(Refusal::NotStarted);
-        }
-        let set = self.mode.set();
+        let set = self.mode.set().ok_or(Refusal::NotStarted)?;
+        // stays: a listed form (docs/DECISIONS.md, Language forms), a pair of the word and its count.
         Ok((set, set.count_ones()))
     }
 
@@ -190,17 +179,14 @@ impl<P: Policy> Bench<P> {
     }
 
     /// Writes the verdict's line.
-    fn write_line(&mut self, buffer: &mut [u8]) -> Result<usize, Refusal>
-        ensures step { Lines (view self.old) buffer.old buffer.new result }
-        ensures unchanged { self.new ≡ self.old }
+    fn write_line(&self, buffer: &mut [u8]) -> Result<usize, Refusal>
+        ensures { Lines (view self.now) buffer.old buffer.new result }
     {
-        if let Mode::Open = self.mode {
-            return Err(Refusal::NotStarted);
-        }
+        let verdict = self.mode.verdict().ok_or(Refusal::NotStarted)?;
         if buffer.len() < LINE_LENGTH {
             return Err(Refusal::BufferTooShort);
         }
-        Ok(self.mode.verdict().write(buffer))
+        Ok(verdict.write(buffer))
     }
 
     /// Writes the verdict's line from the buffer's beginning, and answers its length.

@@ -1,5 +1,6 @@
 -- A record TK and the entry that it tells.
 use Rattle.std.proofs.Common.{◌≡◌, ℕ, ◌+◌, ◌*◌, ◌/◌, ◌%◌, ◌<◌, ◌≤◌, List, [], ◌∷◌, ◌++◌, length, get_or, take, drop, sym, refl, ap, ◌∙◌, subst, arith, length-append}
+use Rattle.std.proofs.lemmas.List.{drop_all}
 use Rattle.task.specs.declared.entry.Entry.{Entry}
 use Rattle.std.specs.List.{flat_map}
 use Rattle.task.specs.Tables.{Obey}
@@ -14,16 +15,9 @@ spread s h = from_reads (get_or s 0 0 ∷ get_or s 1 0 ∷ get_or s 2 0 ∷ get_
 
 -- the first eight, of eight
 spread8 : (s : List ℕ) → length s ≡ 8 → s ≡ get_or s 0 0 ∷ get_or s 1 0 ∷ get_or s 2 0 ∷ get_or s 3 0 ∷ get_or s 4 0 ∷ get_or s 5 0 ∷ get_or s 6 0 ∷ get_or s 7 0 ∷ []
-spread8 (a ∷ b ∷ c ∷ d ∷ e ∷ f ∷ g ∷ h ∷ []) l = refl
-spread8 [] l = absurd (omega arith)
-spread8 (a ∷ []) l = absurd (omega arith)
-spread8 (a ∷ b ∷ []) l = absurd (omega arith)
-spread8 (a ∷ b ∷ c ∷ []) l = absurd (omega arith)
-spread8 (a ∷ b ∷ c ∷ d ∷ []) l = absurd (omega arith)
-spread8 (a ∷ b ∷ c ∷ d ∷ e ∷ []) l = absurd (omega arith)
-spread8 (a ∷ b ∷ c ∷ d ∷ e ∷ f ∷ []) l = absurd (omega arith)
-spread8 (a ∷ b ∷ c ∷ d ∷ e ∷ f ∷ g ∷ []) l = absurd (omega arith)
-spread8 (a ∷ b ∷ c ∷ d ∷ e ∷ f ∷ g ∷ h ∷ i ∷ s) l = absurd (omega arith)
+spread8 s l =
+    let firsts = get_or s 0 0 ∷ get_or s 1 0 ∷ get_or s 2 0 ∷ get_or s 3 0 ∷ get_or s 4 0 ∷ get_or s 5 0 ∷ get_or s 6 0 ∷ get_or s 7 0 ∷ [] in
+    from_reads firsts s 0 (omega arith) (refl, (refl, (refl, (refl, (refl, (refl, (refl, (refl, tt)))))))) ∙ ap (λ z. firsts ++ z) (drop_all 8 s (omega arith))
 
 split16 : (a b : ℕ) → b < 256 → be16 (a * 256 + b) ≡ a ∷ b ∷ []
 split16 a b h =

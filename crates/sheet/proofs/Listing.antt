@@ -1,45 +1,32 @@
 -- The entries of a table in rising task numbers, and the table that they make again.
-use Rattle.std.proofs.Common.{◌≡◌, ℕ, suc, ◌+◌, ◌<◌, ◌≤◌, ◌⊎◌, List, [], ◌∷◌, ◌++◌, length, get_or, take, replicate, Some, None, Option, sym, refl, ap, ◌∙◌, inl, inr, ⊎_elim, append_assoc, append-nil, arith}
+use Rattle.std.proofs.Common.{◌≡◌, ℕ, suc, ◌+◌, ◌≤◌, ◌⊎◌, List, [], ◌∷◌, ◌++◌, length, get_or, replicate, map, Bor, Some, None, Option, sym, refl, ap, ◌∙◌, inl, inr, ⊎_elim, append_assoc, arith}
 use Rattle.std.specs.List.{flat_map}
-use Rattle.std.proofs.lemmas.List.{flat_map_more, map_more, take_all, set_at, length_push, length-map}
+use Rattle.std.specs.Option.{option_to_list}
+use Rattle.std.proofs.lemmas.List.Folds.{flat_map-map}
+use Rattle.std.proofs.lemmas.List.{set_at, length_push, length-map}
 use Rattle.task.specs.declared.entry.Entry.{Entry}
 use Rattle.task.specs.declared.task.Task.{Task}
 use Rattle.task.specs.declared.table.Table.{Table}
 use Rattle.task.specs.Tables.{entry_of, entries, InBounds, Apart, Obey, Numbered, filled, table_of}
 use Rattle.task.proofs.Holding.{same_at}
 use Rattle.task.proofs.Leaving.{bounds_at}
-use Rattle.sheet.specs.Buffers.{Written}
 use Rattle.sheet.specs.Format.{tk}
 use Rattle.sheet.specs.Encoding.{listed}
-use Rattle.sheet.proofs.Writing.{text_more, as_text}
 
-listed_append : (s t : List (Option Entry)) → listed (s ++ t) ≡ listed s ++ listed t
-listed_append [] t = refl
-listed_append (None ∷ s) t = listed_append s t
-listed_append (Some e ∷ s) t = ap (λ z. e ∷ z) (listed_append s t)
+-- there are no more tasks than places
+pub no_more : (ss : List (Option Task)) → length (flat_map option_to_list ss) ≤ length ss
+no_more [] = omega arith
+no_more (None ∷ ss) = let h = no_more ss in omega arith
+no_more (Some t ∷ ss) = let h = no_more ss in omega arith
 
--- the entries of one place more
-listed_more : (ss : List (Option Task)) (i : ℕ) (o : Option Task) → i < length ss → get_or ss i None ≡ o → listed (entries (take (i + 1) ss)) ≡ listed (entries (take i ss)) ++ listed (entry_of o ∷ [])
-listed_more ss i o h e =
-    ap listed (map_more entry_of ss i None h)
-    ∙ (listed_append (entries (take i ss)) (entry_of (get_or ss i None) ∷ [])
-    ∙ ap (λ z. listed (entries (take i ss)) ++ listed (entry_of z ∷ [])) e)
+-- the records of the tasks, where the empty places are passed over
+records_listed : (ss : List (Option Task)) → flat_map (λ t. tk t.figures) (flat_map option_to_list ss) ≡ flat_map tk (listed (entries ss))
+records_listed [] = refl
+records_listed (None ∷ ss) = records_listed ss
+records_listed (Some t ∷ ss) = ap (λ z. tk t.figures ++ z) (records_listed ss)
 
--- the records of the tasks in the places below i were written
-abbrev pub Records : ℕ → ℕ → List (Option Task) → List ℕ → List ℕ → ℕ → Type 0
-Records at i ss b a end = Written at (flat_map tk (listed (entries (take i ss)))) b a end
-
-pub records_none : (at end i : ℕ) (ss : List (Option Task)) (b a : List ℕ) → i < length ss → get_or ss i None ≡ None → Records at i ss b a end → Records at (i + 1) ss b a end
-records_none at end i ss b a h e w =
-    as_text at end _ _ b a (ap (flat_map tk) (sym (listed_more ss i None h e ∙ append-nil (listed (entries (take i ss)))))) w
-
-pub records_some : (at mid end i : ℕ) (ss : List (Option Task)) (t : Task) (b a z : List ℕ) → i < length ss → get_or ss i None ≡ Some t → Records at i ss b a mid → Written mid (tk t.figures) a z end
-    → Records at (i + 1) ss b z end
-records_some at mid end i ss t b a z h e w v =
-    as_text at end _ _ b z (flat_map_more tk [] (listed (entries (take i ss))) t.figures ∙ ap (flat_map tk) (sym (listed_more ss i (Some t) h e))) (text_more at mid end _ _ b a z w v)
-
-pub records_all : (at end i : ℕ) (ss : List (Option Task)) (b a : List ℕ) → length ss ≤ i → Records at i ss b a end → Written at (flat_map tk (listed (entries ss))) b a end
-records_all at end i ss b a h w = as_text at end _ _ b a (ap (λ s. flat_map tk (listed (entries s))) (take_all i ss h)) w
+pub lent_listed : (ts : List (Bor Task)) (ss : List (Option Task)) → map (λ t. t.now) ts ≡ flat_map option_to_list ss → flat_map (λ t. tk t.now.figures) ts ≡ flat_map tk (listed (entries ss))
+lent_listed ts ss h = sym (flat_map-map (λ t. tk t.figures) (λ t. t.now) ts) ∙ (ap (flat_map (λ t. tk t.figures)) h ∙ records_listed ss)
 
 -- an entry shares neither its number nor its name with any in these places
 abbrev Alone : Entry → List (Option Entry) → Type 0

@@ -1,18 +1,13 @@
 -- What is read of single records.
-use Rattle.std.proofs.Common.{◌≡◌, ℕ, suc, ◌-◌, ◌<◌, ◌≤◌, false, List, ◌∷◌, length, get_or, take, drop, Option, sym, subst, arith, length-drop}
+use Rattle.std.proofs.Common.{◌≡◌, ℕ, suc, ◌-◌, ◌<◌, ◌≤◌, false, List, ◌∷◌, length, get_or, drop, Option, sym, subst, arith, length-drop}
 use Rattle.std.proofs.lemmas.List.{length-take-le}
 use Rattle.std.proofs.lemmas.Bool.{le-ltb}
 use Rattle.task.specs.declared.entry.Entry.{Entry}
 use Rattle.task.specs.Rules.{entry_refusal}
-use Rattle.sheet.specs.Format.{at16, at32, entry_in}
+use Rattle.sheet.specs.Format.{entry_in}
 use Rattle.sheet.specs.Faults.{fault_at, refused_at}
 use Rattle.sheet.specs.Reading.{Typed, Reads}
 use Rattle.sheet.proofs.Codes.{written_again}
-
--- the entry that is read figure by figure is the one that the bytes tell
-pub entry_as : (s name : List ℕ) (offset runtime deadline period : ℕ) → name ≡ take 8 (drop 1 s) → offset ≡ at32 s 10 → runtime ≡ at16 s 14 → deadline ≡ at16 s 16 → period ≡ at16 s 18
-    → record { number = get_or s 0 0; name = name; rank = get_or s 9 0; offset = offset; runtime = runtime; deadline = deadline; period = period } ≡ entry_in s
-entry_as s name offset runtime deadline period n o r d p = rw (n, o, r, d, p)
 
 typed_in : (s : List ℕ) → 20 ≤ length s → ((i : ℕ) → get_or s i 0 < 256) → Typed (entry_in s)
 typed_in s h f =

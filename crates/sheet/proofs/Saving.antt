@@ -1,21 +1,17 @@
 -- What is written of a table is a sheet, and decodes to the table.
-use Rattle.std.proofs.Common.{◌≡◌, ℕ, ◌≤◌, cond, ltb, List, length, take, drop, IfOk, Some, None, Ok, Err, Result, sym, refl, ap, ◌∙◌, subst}
+use Rattle.std.proofs.Common.{◌≡◌, ℕ, cond, ltb, List, length, take, drop, IfOk, Some, None, Ok, Err, Result, sym, refl, ap, ◌∙◌, subst}
 use Rattle.std.proofs.lemmas.List.{take_at}
-use Rattle.std.proofs.lemmas.Bool.{le-ltb}
 use Rattle.task.specs.declared.refusal.Refusal.{Refusal}
 use Rattle.task.specs.declared.refusal.Refusal.TheVariants.{CpusOutOfRange, BufferTooShort}
 use Rattle.task.specs.declared.table.Table.{Table}
-use Rattle.task.specs.Rules.{outside, cpus_refusal}
+use Rattle.task.specs.Rules.{outside}
 use Rattle.task.specs.Tables.{entries}
 use Rattle.task.proofs.Obeying.{cond_none, inside}
 use Rattle.sheet.specs.Format.{SheetOf}
 use Rattle.sheet.specs.Decoding.{Decodes}
-use Rattle.sheet.specs.Encoding.{listed, sheet_of, save_refusal, Encodes}
+use Rattle.sheet.specs.Encoding.{listed, sheet_of, Encodes}
 use Rattle.sheet.specs.Theorems.{SavedLoadsBack}
 use Rattle.sheet.proofs.Listing.{table_obeys, table_again}
-
-pub may_save : (cpus room : ℕ) → cpus_refusal cpus ≡ None → 709 ≤ room → save_refusal cpus room ≡ None
-may_save cpus room h l = rw ((cond_none (outside cpus 8) CpusOutOfRange None h).0, le-ltb room 709 l)
 
 pub saved_loads_back : SavedLoadsBack
 saved_loads_back t cpus a b =

@@ -1,5 +1,11 @@
 -- Text that is written into a buffer.
 use Rattle.std.specs.Prelude.{◌≡◌, ℕ, ◌+◌, ◌≤◌, List, ◌++◌, length, take, drop}
+use Rattle.std.specs.Borrow.{Bor}
+use Rattle.std.specs.List.{flat_map}
+
+-- lent pieces, one after another
+abbrev pub joined : List (Bor (List ℕ)) → List ℕ
+joined pieces = flat_map (λ p. p.now) pieces
 
 -- `text` was written at `at`, up to `end`; what stood before and after it is as it was
 pub record Written (at : ℕ) (text before after : List ℕ) (end : ℕ) : Type 0 where

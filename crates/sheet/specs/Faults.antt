@@ -1,5 +1,5 @@
 -- What is wrong with a record, and where.
-use Rattle.std.specs.Prelude.{ℕ, ◌+◌, Bool, false, cond, not, ◌&&◌, List, [], ◌∷◌, length, Some, None, Option, ◌==◌, nat_lt, slice_index}
+use Rattle.std.specs.Prelude.{ℕ, ◌+◌, Bool, false, cond, not, ◌&&◌, List, [], ◌∷◌, ◌++◌, length, codes, decimal, Some, None, Option, ◌==◌, nat_lt, slice_index}
 use Rattle.task.specs.declared.entry.Entry.{Entry}
 use Rattle.task.specs.declared.refusal.Refusal.{Refusal}
 use Rattle.task.specs.Refusals.{number_of}
@@ -27,6 +27,11 @@ fault_number (Refused refusal place) = number_of refusal
 abbrev pub fault_place : LoadFault → ℕ
 fault_place (Sheet fault place) = place
 fault_place (Refused refusal place) = place
+
+-- how a fault is printed: S for one of the form, T for a refusal, then its number and its place
+abbrev pub fault_text : LoadFault → List ℕ
+fault_text (Sheet fault place) = ((codes "S " ++ decimal (sheet_number_of fault)) ++ codes " ") ++ decimal place
+fault_text (Refused refusal place) = ((codes "T " ++ decimal (number_of refusal)) ++ codes " ") ++ decimal place
 
 -- the mark that two bytes are
 abbrev pub mark_of : ℕ → ℕ → Option Mark

@@ -1,19 +1,12 @@
 -- What is read of a single record.
-use Rattle.std.specs.Prelude.{◌≡◌, ℕ, ◌<◌, Bool, false, List, ◌++◌, length, Some, None, Ok, Err, Option, Result}
+use Rattle.std.specs.Prelude.{◌≡◌, ℕ, ◌<◌, Bool, false, List, ◌++◌, length, Some, None, Option}
 use Rattle.std.specs.Borrow.{Bor}
 use Rattle.task.specs.declared.entry.Entry.{Entry}
-use Rattle.task.specs.declared.refusal.Refusal.{Refusal}
 use Rattle.task.specs.Rules.{entry_refusal}
 use Rattle.sheet.specs.declared.fault.LoadFault.TheVariants.{Sheet}
 use Rattle.sheet.specs.declared.fault.Misread.{Misread}
-use Rattle.sheet.specs.declared.fault.Placed.{Placed}
 use Rattle.sheet.specs.Format.{tk, en}
 use Rattle.sheet.specs.Faults.{fault_at, refused_at}
-
--- an answer, a refusal beside the place
-abbrev pub AtPlace : {U : Type 0} → ℕ → Result U Refusal → Result U Placed → Type 0
-AtPlace place (Ok v) q = q ≡ Ok v
-AtPlace place (Err e) q = q ≡ Err (record { refusal = e; place = place })
 
 -- the record has this fault of the form
 abbrev pub Misreads : Bool → List (Option Entry) → ℕ → List ℕ → Misread → Type 0

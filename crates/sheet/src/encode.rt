@@ -1,41 +1,16 @@
 ghost use Rattle.std.specs.Prelude.{◌≡◌, ◌+◌, ◌≤◌, length, take, IfOk, Ok};
 ghost use Rattle.std.specs.List.{flat_map};
 ghost use Rattle.task.specs.Tables.{entries};
-ghost use Rattle.sheet.specs.Format.{be16, be32, tk};
+ghost use Rattle.sheet.specs.Format.{tk};
 ghost use Rattle.sheet.specs.Buffers.{Written};
 ghost use Rattle.sheet.specs.Encoding.{listed, Encodes};
 ghost use Rattle.sheet.specs.Decoding.{Decodes};
 
+use crate::buffer::put_all;
 use task::checks::check_cpus;
 use task::refusal::Refusal;
 use task::table::Table;
 use task::task::Task;
-
-// Writes the bytes at `at`, and answers where they end
-fn put(buffer: &mut [u8], at: usize, bytes: &[u8]) -> usize
-    requires { at + length bytes.now ≤ length buffer.old }
-    ensures { Written at bytes.now buffer.old buffer.new result }
-{
-    let end = at + bytes.len();
-    buffer[at..end].copy_from_slice(bytes);
-    end
-}
-
-// Writes a number in two bytes at `at`, the high byte first, and answers where they end
-fn put_u16(buffer: &mut [u8], at: usize, n: u16) -> usize
-    requires { at + 2 ≤ length buffer.old }
-    ensures { Written at (be16 n) buffer.old buffer.new result }
-{
-    put(buffer, at, &n.to_be_bytes())
-}
-
-// Writes a number in four bytes at `at`, the high byte first, and answers where they end
-fn put_u32(buffer: &mut [u8], at: usize, n: u32) -> usize
-    requires { at + 4 ≤ length buffer.old }
-    ensures { Written at (be32 n) buffer.old buffer.new result }
-{
-    put(buffer, at, &n.to_be_bytes())
-}
 
 // Writes the record of a task at `at`, and answers where it ends
 fn put_task(buffer: &mut [u8], at: usize, task: &Task) -> usize
@@ -43,13 +18,16 @@ fn put_task(buffer: &mut [u8], at: usize, task: &Task) -> usize
     ensures written { Written at (tk task.now.figures) buffer.old buffer.new result }
     ensures next { result ≡ at + 22 }
 {
-    let at = put(buffer, at, &[b'T', b'K', task.number()]);
-    let at = put(buffer, at, &task.name());
-    let at = put(buffer, at, &[task.rank()]);
-    let at = put_u32(buffer, at, task.offset());
-    let at = put_u16(buffer, at, task.runtime());
-    let at = put_u16(buffer, at, task.deadline());
-    put_u16(buffer, at, task.period())
+    let figures: [&[u8]; 7] = [
+        &[b'T', b'K', task.number()],
+        &task.name(),
+        &[task.rank()],
+        &task.offset().to_be_bytes(),
+        &task.runtime().to_be_bytes(),
+        &task.deadline().to_be_bytes(),
+        &task.period().to_be_bytes(),
+    ];
+    put_all(buffer, at, &figures)
 }
 
 // Writes the records of the tasks at `at` in rising task numbers, and answers where they end
@@ -59,10 +37,8 @@ fn put_tasks(buffer: &mut [u8], at: usize, tasks: &[Option<Task>; 32]) -> usize
     ensures next { result ≤ at + 704 }
 {
     let mut end = at;
-    for slot in tasks.iter() {
-        if let Some(task) = slot {
-            end = put_task(buffer, end, task);
-        }
+    for task in tasks.iter().flatten() {
+        end = put_task(buffer, end, task);
     }
     end
 }
@@ -75,9 +51,9 @@ fn write_sheet(table: &Table, cpus: u8, buffer: &mut [u8]) -> Result<usize, Refu
     if buffer.len() < 709 {
         return Err(Refusal::BufferTooShort);
     }
-    let at = put(buffer, 0, &[b'C', b'P', cpus]);
+    let at = put_all(buffer, 0, &[&[b'C', b'P', cpus]]);
     let at = put_tasks(buffer, at, table.tasks());
-    Ok(put(buffer, at, b"EN"))
+    Ok(put_all(buffer, at, &[b"EN"]))
 }
 
 /// Writes the table as a sheet from the buffer's beginning, its tasks in rising numbers, and answers the sheet's length; or refuses, and leaves every byte as it was. What was written decodes to the CPUs and the table again.

@@ -1,22 +1,23 @@
-ghost use Rattle.std.specs.Prelude.{◌≡◌};
+ghost use Rattle.std.specs.Prelude.{◌≡◌, Some};
 ghost use Rattle.sheet.specs.declared.fault.LoadFault.TheVariants.{Sheet, Refused};
-ghost use Rattle.sheet.specs.Faults.{sheet_number_of, fault_number, fault_place};
+ghost use Rattle.sheet.specs.Faults.{sheet_number_of, fault_number, fault_place, fault_text};
 
+use std::fmt;
 use task::refusal::Refusal;
 
 /// What can be wrong with the form of a sheet. specs/Faults.antt gives each case its number.
-#[derive(Clone, Copy)]
+#[derive(Clone, Copy, PartialEq, Eq, Debug)]
 pub enum SheetFault {
     /// Fewer than two bytes remain where a record is due.
-    NoMark,
+    NoMark = 3,
     /// The two bytes are no record's mark.
-    UnknownMark,
+    UnknownMark = 4,
     /// The first record is no CP, or a later one is.
-    OutOfOrder,
+    OutOfOrder = 5,
     /// The bytes end within the record.
-    CutShort,
+    CutShort = 6,
     /// Bytes follow the last record, EN.
-    Trailing,
+    Trailing = 7,
 }
 
 impl SheetFault {
@@ -24,18 +25,12 @@ impl SheetFault {
     pub fn number(&self) -> u8
         ensures { result ≡ sheet_number_of self.now }
     {
-        match self {
-            SheetFault::NoMark => 3,
-            SheetFault::UnknownMark => 4,
-            SheetFault::OutOfOrder => 5,
-            SheetFault::CutShort => 6,
-            SheetFault::Trailing => 7,
-        }
+        *self as u8
     }
 }
 
 /// Why a sheet is not loaded: a fault of its form, or a refusal of what a record says, and the place of that in the bytes.
-#[derive(Clone, Copy)]
+#[derive(Clone, Copy, PartialEq, Eq, Debug)]
 pub enum LoadFault {
     /// The sheet has a fault of its form at the place.
     Sheet { fault: SheetFault, place: usize },
@@ -59,14 +54,26 @@ impl LoadFault {
         ensures { result ≡ fault_place self.now }
     {
         match self {
-            LoadFault::Sheet { place, .. } => *place,
-            LoadFault::Refused { place, .. } => *place,
+            LoadFault::Sheet { place, .. } | LoadFault::Refused { place, .. } => *place,
         }
     }
 }
 
+/// S for a fault of the form or T for a refusal, the number, and the place.
+impl fmt::Display for LoadFault {
+    ghost output = { λ f. Some (fault_text f) };
+
+    fn fmt<W: fmt::Write>(&self, f: &mut fmt::Formatter<W>) -> fmt::Result {
+        let layer = match self {
+            LoadFault::Sheet { .. } => 'S',
+            LoadFault::Refused { .. } => 'T',
+        };
+        write!(f, "{layer} {} {}", self.number(), self.place())
+    }
+}
+
 /// A fault of the form of a sheet, and its place.
-#[derive(Clone, Copy)]
+#[derive(Clone, Copy, PartialEq, Eq, Debug)]
 pub struct Misread {
     /// The fault.
     pub fault: SheetFault,
@@ -75,7 +82,8 @@ pub struct Misread {
 }
 
 /// A refusal, and the place of the record that is refused.
-#[derive(Clone, Copy)]
+// stays: a listed form (docs/DECISIONS.md, Language forms), and From takes one value only.
+#[derive(Clone, Copy, PartialEq, Eq, Debug)]
 pub struct Placed {
     /// The refusal.
     pub refusal: Refusal,

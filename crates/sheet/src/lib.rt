@@ -2,6 +2,8 @@
 
 #![tactic(auto)]
 
+/// Text that is written into a buffer.
+pub mod buffer;
 /// The decoding of sheets.
 pub mod decode;
 /// The encoding of tables as sheets.

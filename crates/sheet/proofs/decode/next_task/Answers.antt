@@ -1,12 +1,7 @@
-use Rattle.std.proofs.Common.{ℕ, ◌-◌, ◌<◌, [], ◌∷◌, length, get_or, take, drop, refl, arith, rules, ltb-false, ltb-true}
-use Rattle.std.proofs.lemmas.Slice.Eq.{text_from_reads}
-use Rattle.sheet.specs.Format.{en}
+use Rattle.std.proofs.Common.{ℕ, ◌-◌, ◌<◌, [], ◌∷◌, length, get_or, take, drop, refl, arith, rules, ltb-false}
 use Rattle.sheet.proofs.Opened.{opened}
 use Rattle.sheet.proofs.Records.{reads_as}
 use Rattle.sheet.proofs.decode.next_task.Goals as goal
-
-pub returns-in-69 : goal.returns-in-69
-returns-in-69 c = text_from_reads c.args.bytes.now en (omega (arith, ltb-true, ltb-false)) (search rules, (search rules, tt))
 
 pub returns-in-Some : goal.returns-in-Some
 returns-in-Some c =

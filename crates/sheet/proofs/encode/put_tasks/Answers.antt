@@ -1,33 +1,26 @@
-use Rattle.std.proofs.Common.{◌≡◌, get_or, None, ◌∙◌, arith, rules}
-use Rattle.std.proofs.lemmas.List.{get_or_default}
-use Rattle.sheet.proofs.Writing.{as_after}
-use Rattle.sheet.proofs.Listing.{records_none, records_some, records_all}
+use Rattle.std.proofs.Common.{arith}
+use Rattle.std.specs.Option.{option_to_list}
+use Rattle.std.proofs.lemmas.Iterator.{YieldsList-from_slice}
+use Rattle.std.proofs.lemmas.Iterator.Adapters.{YieldsList-from_flatten}
+use Rattle.std.proofs.lemmas.Iterator.Consumers.{YieldsList-at, YieldsList-turn, YieldsList-end}
+use Rattle.task.proofs.Flattened.{place_gives}
+use Rattle.sheet.proofs.Listing.{no_more, lent_listed}
+use Rattle.sheet.proofs.Writing.{as_text}
 use Rattle.sheet.proofs.encode.put_tasks.Goals as goal
-use Rattle.sheet.proofs.encode.put_tasks.Goals.{in-Some, in_default}
 
-pub loop-slot-preserved : goal.loop-slot-preserved
-loop-slot-preserved c =
-    let b = c.args.buffer.now in
-    let ss = c.args.tasks.now in
-    let i = c.loop-slot.slot-index in
-    let inv = c.loop-slot.invariant in
-    elim c.match-slot.branch [
-      | in-Some w ↦ (
-        as_after c.args.at _ b c.match-slot.buffer w.put_task-end.new.buffer c.match-slot.end w.put_task-end.result w.buffer-is w.end-is
-            (records_some c.args.at c.loop-slot.end w.put_task-end.result i ss w.in-Some.task b c.loop-slot.buffer w.put_task-end.new.buffer (omega arith)
-            (get_or_default ss i None c.slot-item.result (omega arith) ∙ w.in-Some.is) inv.0 w.put_task-end.ensures.written),
-        let n = w.put_task-end.ensures.next in let m = w.end-is in omega arith,
-      )
-      | in_default w ↦
-          let e : get_or ss i None ≡ None = search rules in (
-            as_after c.args.at _ b c.match-slot.buffer c.loop-slot.buffer c.match-slot.end c.loop-slot.end w.buffer-is w.end-is
-                (records_none c.args.at c.loop-slot.end i ss b c.loop-slot.buffer (omega arith) e inv.0),
-            let m = w.end-is in omega arith,
-          )
-    ]
+pub put_task-end-requires : goal.put_task-end-requires
+put_task-end-requires c =
+    let e = c.flatten-task-items.ensures in
+    let r = YieldsList-from_flatten _ _ (λ y. y.now) option_to_list (λ x j b. place_gives j x.now b.0 b.1) (YieldsList-from_slice c.args.tasks.now cc) e.front e.back e.done in
+    let t = YieldsList-turn (YieldsList-at c.into_iter-task-iterator.ensures.into_iter_gives r) c.loop-task.yielded _ c.loop-task.yielded_by _ _ c.in-Some.task c.in-Some.is c.next.ensures.steps in
+    omega (arith, no_more c.args.tasks.now, t.0, c.loop-task.invariant.1)
 
 pub returns : goal.returns
-returns c = record {
-  written = records_all c.args.at c.loop-slot.end c.loop-slot.slot-index c.args.tasks.now c.args.buffer.now c.loop-slot.buffer (omega arith) c.loop-slot.invariant.0;
-  next = let i = c.loop-slot.invariant.1 in omega arith;
-}
+returns c =
+    let e = c.flatten-task-items.ensures in
+    let r = YieldsList-from_flatten _ _ (λ y. y.now) option_to_list (λ x j b. place_gives j x.now b.0 b.1) (YieldsList-from_slice c.args.tasks.now cc) e.front e.back e.done in
+    let t = YieldsList-end (YieldsList-at c.into_iter-task-iterator.ensures.into_iter_gives r) c.loop-task.yielded _ c.loop-task.yielded_by _ _ c.in-None.is c.next.ensures.steps in
+    record {
+      written = as_text c.args.at _ _ _ _ _ (lent_listed c.loop-task.yielded c.args.tasks.now t.0) c.loop-task.invariant.0;
+      next = omega (arith, no_more c.args.tasks.now, t.1, c.loop-task.invariant.1);
+    }

@@ -1,6 +1,8 @@
-use Rattle.std.proofs.Common.{◌+◌, ◌*◌, ◌≤◌}
-use Rattle.sheet.proofs.Listing.{Records}
+use Rattle.std.proofs.Common.{◌+◌, ◌*◌, ◌≤◌, length}
+use Rattle.std.specs.List.{flat_map}
+use Rattle.sheet.specs.Format.{tk}
+use Rattle.sheet.specs.Buffers.{Written}
 use Rattle.sheet.proofs.encode.put_tasks.Given as goal
 
-abbrev pub invariant-loop-slot : goal.invariant-loop-slot
-invariant-loop-slot l = Records l.at l.slot-index l.tasks l.initial.buffer l.buffer l.end × (l.end ≤ l.at + 22 * l.slot-index)
+abbrev pub invariant-loop-task : goal.invariant-loop-task
+invariant-loop-task l = Written l.at (flat_map (λ t. tk t.now.figures) l.yielded) l.initial.buffer l.buffer l.end × (l.end ≤ l.at + 22 * length l.yielded)

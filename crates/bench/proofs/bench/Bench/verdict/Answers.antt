@@ -3,12 +3,10 @@ use Rattle.bench.specs.Seen.{view}
 use Rattle.bench.proofs.Keeping.{lawful}
 use Rattle.bench.proofs.bench.Bench.verdict.Goals as goal
 
-pub returns : goal.returns
-returns g c =
-    let met = g.met.P.Policy in
+pub returns-clause-law : goal.returns-clause-law
+returns-clause-law g c = λ p log m.
     let v = view c.args.self.now in
-    record {
-      step = c.told.ensures;
-      law = λ p log m. lawful g.P.Policy.keyed g.P.Policy.precedes p (met.total p) (met.transitive p) log v v asking_verdict c.told.result m c.told.ensures;
-      every_call = λ p log x u call answer m s. lawful g.P.Policy.keyed g.P.Policy.precedes p (met.total p) (met.transitive p) log x u call answer m s;
-    }
+    lawful g.P.Policy.keyed g.P.Policy.precedes p (g.met.P.Policy.total p) (g.met.P.Policy.transitive p) log v v asking_verdict c.told.result m c.told.ensures
+
+pub returns-clause-every_call : goal.returns-clause-every_call
+returns-clause-every_call g c = λ p log x u call answer m s. lawful g.P.Policy.keyed g.P.Policy.precedes p (g.met.P.Policy.total p) (g.met.P.Policy.transitive p) log x u call answer m s
