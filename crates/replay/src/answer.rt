@@ -1,104 +1,50 @@
 use bench::verdict::Verdict;
-use sheet::fault::LoadFault;
 use std::fmt;
-use task::refusal::Refusal;
 
-/// How many bytes a buffer has at most: more than any sheet or line, so that a longer one is used alike.
-pub const BUFFER_LENGTH: usize = 1024;
-
-/// What is printed for a line.
-#[derive(Clone, Copy)]
+/// What a call that is made gives back.
+#[derive(Drop)]
 pub enum Answer {
-    /// The line is no call, or there is no bench to call.
-    Unreadable,
-    /// The call is made, and gives nothing back.
+    /// Nothing.
     Done,
-    /// The call is refused.
-    Refused(Refusal),
     /// The sheet is loaded, and names so many CPUs.
-    Loaded {
-        cpus: u8,
-    },
-    /// The sheet is not loaded.
-    NotLoaded(LoadFault),
-    /// The table is saved, and the sheet ends there in the buffer.
-    Saved {
-        buffer: [u8; BUFFER_LENGTH],
-        end: usize,
-    },
+    Loaded { cpus: u8 },
+    /// The sheet that the table is saved as.
+    Saved(Vec<u8>),
     /// The verdict.
     Told(Verdict),
     /// The running set, a bit for each task, and how many they are.
-    Ran {
-        word: u32,
-        count: u32,
-    },
-    /// The verdict's line, which ends there in the buffer.
-    Written {
-        buffer: [u8; BUFFER_LENGTH],
-        end: usize,
-    },
+    Ran { word: u32, count: u32 },
+    /// The verdict's line, with its end.
+    Written(Vec<u8>),
 }
 
 impl fmt::Display for Answer {
     fn fmt<W: fmt::Write>(&self, f: &mut fmt::Formatter<W>) -> fmt::Result {
         match self {
-            Answer::Unreadable => write!(f, "unreadable"),
             Answer::Done => write!(f, "ok"),
-            Answer::Refused(refusal) => write!(f, "refused {}", refusal.number()),
             Answer::Loaded { cpus } => write!(f, "ok {cpus}"),
-            Answer::NotLoaded(fault) => show_fault(fault, f),
-            Answer::Saved { buffer, end } => show_sheet(buffer, *end, f),
-            Answer::Told(verdict) => show_verdict(verdict, f),
+            Answer::Saved(sheet) => show_sheet(sheet.as_slice(), f),
+            Answer::Told(verdict) => write!(f, "{verdict}"),
             Answer::Ran { word, count } => write!(f, "ok {word:08X} {count}"),
-            Answer::Written { buffer, end } => show_line(buffer, *end, f),
-        }
-    }
-}
-
-/// Shows why a sheet is not loaded: S for a fault of its form, T for a refusal of a record.
-fn show_fault<W: fmt::Write>(fault: &LoadFault, f: &mut fmt::Formatter<W>) -> fmt::Result {
-    match fault {
-        LoadFault::Sheet { fault, place } => write!(f, "refused S {} {place}", fault.number()),
-        LoadFault::Refused { refusal, place } => {
-            write!(f, "refused T {} {place}", refusal.number())
+            Answer::Written(line) => show_line(line.as_slice(), f),
         }
     }
 }
 
 /// Shows a sheet's length and its bytes.
-fn show_sheet<W: fmt::Write>(
-    buffer: &[u8; BUFFER_LENGTH],
-    end: usize,
-    f: &mut fmt::Formatter<W>,
-) -> fmt::Result {
-    write!(f, "ok {end} ")?;
-    for b in buffer.iter().take(end) {
+fn show_sheet<W: fmt::Write>(sheet: &[u8], f: &mut fmt::Formatter<W>) -> fmt::Result {
+    write!(f, "ok {} ", sheet.len())?;
+    for b in sheet {
         write!(f, "{b:02X}")?;
     }
     Ok(())
 }
 
-/// Shows a verdict.
-fn show_verdict<W: fmt::Write>(verdict: &Verdict, f: &mut fmt::Formatter<W>) -> fmt::Result {
-    match verdict {
-        Verdict::Holds { first, second } => write!(f, "HOLDS {first} {second}"),
-        Verdict::Missed { task, instant } => write!(f, "MISSED {task} {instant}"),
-        Verdict::Running { instant } => write!(f, "RUNNING {instant}"),
-    }
-}
-
 /// Shows a line's length, with its end, and its text without the end.
-fn show_line<W: fmt::Write>(
-    buffer: &[u8; BUFFER_LENGTH],
-    end: usize,
-    f: &mut fmt::Formatter<W>,
-) -> fmt::Result {
-    write!(f, "ok {end} ")?;
-    for b in buffer.iter().take(end) {
-        if *b != b'\n' {
-            write!(f, "{}", char::from(*b))?;
-        }
+fn show_line<W: fmt::Write>(line: &[u8], f: &mut fmt::Formatter<W>) -> fmt::Result {
+    write!(f, "ok {} ", line.len())?;
+    for b in line.strip_suffix(b"\n").unwrap_or(line) {
+        write!(f, "{}", char::from(*b))?;
     }
     Ok(())
 }

@@ -1,20 +1,29 @@
 use crate::answer::Answer;
+use crate::denied::Denied;
 use crate::perform::perform;
 use crate::script::{Base, Call, Ratio, Setup};
 use bench::bench::Bench;
 use policy::deadline::Deadline;
 use policy::heavy::{HeavyFirst, Threshold};
 use policy::rank::Rank;
+use std::alloc::Global;
 use task::refusal::Refusal;
 
 /// A bench of one of the policies.
+// stays: an enum, since a function may not hand out a Box of a dyn trait that it makes.
 #[derive(Drop)]
 pub enum AnyBench {
+    /// Earliest deadline first.
     ByDeadline(Bench<Deadline>),
+    /// Fixed priorities.
     ByRank(Bench<Rank>),
+    /// Heavy tasks first, over deadline.
     HeavyByDeadline(Bench<HeavyFirst<Deadline>>),
+    /// Heavy tasks first, over rank.
     HeavyByRank(Bench<HeavyFirst<Rank>>),
+    /// Heavy tasks first by two thresholds, over deadline.
     TwiceByDeadline(Bench<HeavyFirst<HeavyFirst<Deadline>>>),
+    /// Heavy tasks first by two thresholds, over rank.
     TwiceByRank(Bench<HeavyFirst<HeavyFirst<Rank>>>),
 }
 
@@ -48,33 +57,15 @@ impl AnyBench {
         Ok(bench)
     }
 
-    /// Makes the call, and gives the bench back with its answer.
-    pub fn perform(self, call: &Call) -> (AnyBench, Answer) {
+    /// Makes the call, and gives what the bench answers.
+    pub fn perform(&mut self, call: &Call, heap: Global) -> Result<Answer, Denied> {
         match self {
-            AnyBench::ByDeadline(mut bench) => {
-                let answer = perform(&mut bench, call);
-                (AnyBench::ByDeadline(bench), answer)
-            }
-            AnyBench::ByRank(mut bench) => {
-                let answer = perform(&mut bench, call);
-                (AnyBench::ByRank(bench), answer)
-            }
-            AnyBench::HeavyByDeadline(mut bench) => {
-                let answer = perform(&mut bench, call);
-                (AnyBench::HeavyByDeadline(bench), answer)
-            }
-            AnyBench::HeavyByRank(mut bench) => {
-                let answer = perform(&mut bench, call);
-                (AnyBench::HeavyByRank(bench), answer)
-            }
-            AnyBench::TwiceByDeadline(mut bench) => {
-                let answer = perform(&mut bench, call);
-                (AnyBench::TwiceByDeadline(bench), answer)
-            }
-            AnyBench::TwiceByRank(mut bench) => {
-                let answer = perform(&mut bench, call);
-                (AnyBench::TwiceByRank(bench), answer)
-            }
+            AnyBench::ByDeadline(bench) => perform(bench, call, heap),
+            AnyBench::ByRank(bench) => perform(bench, call, heap),
+            AnyBench::HeavyByDeadline(bench) => perform(bench, call, heap),
+            AnyBench::HeavyByRank(bench) => perform(bench, call, heap),
+            AnyBench::TwiceByDeadline(bench) => perform(bench, call, heap),
+            AnyBench::TwiceByRank(bench) => perform(bench, call, heap),
         }
     }
 }

@@ -19,27 +19,23 @@
 
 mod answer;
 mod benches;
+mod denied;
 mod perform;
 mod script;
 mod session;
-mod unread;
 mod words;
 
-use answer::Answer;
+use denied::Denied;
 use session::Session;
-use std::alloc::AllocError;
 use std::io::{BufRead, BufReader, BufWriter, Write};
-use unread::Unread;
 
-/// Does what a line asks for, and prints the answer, if there is one.
+/// Does what a line asks for, and prints the answer, if there is one. Lack of memory ends the script.
 fn replay_line<W: Write>(line: &[u8], session: &mut Session, out: &mut W) -> anyhow::Result<()> {
-    let answer = match session.answer(line) {
-        Ok(answer) => answer,
-        Err(Unread::NoCall) => Some(Answer::Unreadable),
-        Err(Unread::NoMemory) => return Err(AllocError.into()),
-    };
-    if let Some(answer) = answer {
-        writeln!(out, "{answer}")?;
+    match session.answer(line) {
+        Ok(None) => {}
+        Ok(Some(answer)) => writeln!(out, "{answer}")?,
+        Err(Denied::Memory(e)) => return Err(e.into()),
+        Err(denied) => writeln!(out, "{denied}")?,
     }
     Ok(())
 }

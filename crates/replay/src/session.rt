@@ -1,7 +1,7 @@
 use crate::answer::Answer;
 use crate::benches::AnyBench;
+use crate::denied::Denied;
 use crate::script::{Call, Request, Setup, read_request};
-use crate::unread::Unread;
 use crate::words::split_words;
 use std::alloc::Global;
 
@@ -19,28 +19,19 @@ impl Session {
     }
 
     /// Makes a new bench. Where its policy is refused, the bench stays as it was.
-    fn renew(&mut self, setup: Setup) -> Answer {
-        match AnyBench::new(setup) {
-            Ok(bench) => {
-                self.bench = Some(bench);
-                Answer::Done
-            }
-            Err(refusal) => Answer::Refused(refusal),
-        }
+    fn renew(&mut self, setup: Setup) -> Result<Answer, Denied> {
+        self.bench = Some(AnyBench::new(setup)?);
+        Ok(Answer::Done)
     }
 
     /// Makes a call, unless there is no bench yet.
-    fn call(&mut self, call: &Call) -> Answer {
-        let Some(bench) = self.bench.take() else {
-            return Answer::Unreadable;
-        };
-        let (bench, answer) = bench.perform(call);
-        self.bench = Some(bench);
-        answer
+    fn call(&mut self, call: &Call) -> Result<Answer, Denied> {
+        let bench = self.bench.as_mut().ok_or(Denied::Unreadable)?;
+        bench.perform(call, self.heap)
     }
 
     /// Does what a line asks for, and gives what is to be printed: nothing for a comment and for a line without words.
-    pub fn answer(&mut self, line: &[u8]) -> Result<Option<Answer>, Unread> {
+    pub fn answer(&mut self, line: &[u8]) -> Result<Option<Answer>, Denied> {
         if line.starts_with(b"#") {
             return Ok(None);
         }
@@ -48,9 +39,10 @@ impl Session {
         if words.is_empty() {
             return Ok(None);
         }
-        match read_request(words.as_slice(), self.heap)? {
-            Request::New(setup) => Ok(Some(self.renew(setup))),
-            Request::Perform(call) => Ok(Some(self.call(&call))),
-        }
+        let answer = match read_request(words.as_slice(), self.heap)? {
+            Request::New(setup) => self.renew(setup)?,
+            Request::Perform(call) => self.call(&call)?,
+        };
+        Ok(Some(answer))
     }
 }

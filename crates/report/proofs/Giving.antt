@@ -1,15 +1,13 @@
 -- Run after run: what a bench is given, and that a decided bench stays.
-use Rattle.std.proofs.Common.{◌≡◌, ℕ, ◌+◌, ◌-◌, ◌≤◌, Bool, true, false, Some, Ok, Err, Result, sym, refl, ap, ◌∙◌, subst, arith}
+use Rattle.std.proofs.Common.{◌≡◌, ℕ, ◌+◌, ◌-◌, ◌≤◌, Bool, true, false, refl, ap, ◌∙◌, subst, arith}
 use Rattle.std.proofs.lemmas.Bool.{both_ways}
 use Rattle.schedule.specs.Plan.{Plan}
 use Rattle.task.specs.declared.entry.Entry.{Entry}
-use Rattle.task.specs.declared.refusal.Refusal.{Refusal}
 use Rattle.bench.specs.declared.mode.Mode.{Mode}
 use Rattle.bench.specs.declared.mode.Mode.TheVariants.{Open, Running, Held, Missed}
-use Rattle.bench.specs.declared.verdict.Verdict.{Verdict}
 use Rattle.bench.specs.Judged.{GivenRuns, more}
-use Rattle.bench.specs.Modes.{is_started, verdict_of, is_decided}
-use Rattle.bench.specs.Steps.{View, with_mode, plan_for, GoesOn, RanFor, open_refusal}
+use Rattle.bench.specs.Modes.{verdict_of, is_decided}
+use Rattle.bench.specs.Steps.{View, with_mode, plan_for, GoesOn}
 
 -- a run leaves no bench open
 pub stays_started : (p : Plan) (a b : Mode) (k : ℕ) → GoesOn p a k b → b ≡ Open → ⊥
@@ -34,22 +32,15 @@ given_rest p a b n all h e r =
     subst (λ k. GivenRuns p a k b) q (more (all - n) r (stays p b (all - n) e))
 
 module _ {P K : Type 0} (keyed : P → Entry → ℕ → K) (le : P → K → K → Bool) where
-  pub ran_view : (v u : View P) (k : ℕ) (r : Result Verdict Refusal) → RanFor keyed le v k r u → u ≡ with_mode v u.mode
-  ran_view v u k (Ok y) q = q.2
-  ran_view v u k (Err e) q = q.1 ∙ ap (λ w. with_mode v w.mode) (sym q.1)
-
-  refused_open : {A : Type 0} (mode : Mode) (e : Refusal) → (mode ≡ Open → ⊥) → open_refusal (is_started mode) ≡ Some e → A
-  refused_open Open e shut h = absurd (shut refl)
-  refused_open (Running a) e shut h = absurd (cc)
-  refused_open (Held a x y) e shut h = absurd (cc)
-  refused_open (Missed a x y) e shut h = absurd (cc)
-
-  pub ran_refused : {A : Type 0} (v u : View P) (k : ℕ) (e : Refusal) → (v.mode ≡ Open → ⊥) → RanFor keyed le v k (Err e) u → A
-  ran_refused v u k e shut q = refused_open v.mode e shut q.0
-
   -- the same view but for the mode, through another run
   pub same_but_mode : (v w u : View P) → w ≡ with_mode v w.mode → u ≡ with_mode w u.mode → u ≡ with_mode v u.mode
   same_but_mode v w u e f = f ∙ ap (λ x. with_mode x u.mode) e
 
-  pub same_plan : (v w : View P) → w ≡ with_mode v w.mode → plan_for keyed le w ≡ plan_for keyed le v
+  same_plan : (v w : View P) → w ≡ with_mode v w.mode → plan_for keyed le w ≡ plan_for keyed le v
   same_plan v w e = ap (plan_for keyed le) e
+
+  -- one run more
+  pub run_more : (v w u : View P) (n k : ℕ) → w ≡ with_mode v w.mode → GivenRuns (plan_for keyed le v) v.mode n w.mode → GoesOn (plan_for keyed le w) w.mode k u.mode → GivenRuns (plan_for keyed le v) v.mode (n + k) u.mode
+  run_more v w u n k same given e =
+      let G : Plan → Type 0 = λ p. GoesOn p w.mode k u.mode in
+      more k given (subst G (same_plan v w same) e)

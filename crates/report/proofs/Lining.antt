@@ -1,9 +1,16 @@
 -- A line that was written into the rest of a buffer stands at its place in the whole.
-use Rattle.std.proofs.Common.{◌≡◌, ℕ, ◌+◌, ◌-◌, ◌≤◌, List, ◌++◌, length, take, drop, sym, refl, ap, ◌∙◌, append_assoc, append-nil, arith, length-append, length-drop, take-append-drop}
+use Rattle.std.proofs.Common.{◌≡◌, ℕ, ◌+◌, ◌-◌, ◌≤◌, nat_lt, Bool, cond, Some, None, Ok, Err, List, ◌++◌, length, take, drop, sym, refl, ap, ◌∙◌, append_assoc, append-nil, arith, length-append, length-drop, take-append-drop}
 use borrow.Rule.Slice.PartMut.{put_mid}
 use Rattle.std.proofs.lemmas.List.{length-take-le, take_all, take-append-le, drop-drop, drop_all}
 use Rattle.std.proofs.lemmas.Slice.{take-put_mid, drop-put_mid, drop-append-drop}
+use Rattle.std.proofs.lemmas.Bool.{le-ltb}
+use Rattle.task.specs.declared.entry.Entry.{Entry}
+use Rattle.task.specs.declared.refusal.Refusal.TheVariants.{BufferTooShort}
 use Rattle.sheet.specs.Buffers.{Written, BeginsWith}
+use Rattle.bench.specs.Lines.{verdict_line, fault_line}
+use Rattle.report.specs.declared.unjudged.Unjudged.{Unjudged}
+use Rattle.report.specs.declared.unjudged.Unjudged.TheVariants.{Denied, Refused}
+use Rattle.report.specs.Prints.{Prints, PrintsAt}
 
 module _ (a n : ℕ) (xs ys text : List ℕ) (fits : a ≤ length xs) (size : length ys ≡ length xs - a) (is : BeginsWith text (take (length xs - a) (drop a xs)) ys n) (room : n ≤ length xs - a) where
   abbrev after : List ℕ
@@ -31,3 +38,19 @@ module _ (a n : ℕ) (xs ys text : List ℕ) (fits : a ≤ length xs) (size : le
         front = ap (take (a + n)) parts ∙ (take-append-le (a + n) (take a xs ++ text) (drop (a + n) xs) (let l = long in omega arith) ∙ take_all (a + n) (take a xs ++ text) (let l = long in omega arith));
         back = λ m h. ap (drop m) parts ∙ drop-append-drop (a + n) xs (take a xs ++ text) m h long;
       }
+
+-- a buffer of so many bytes is not too short
+pub has_room : (n room : ℕ) → n ≤ room → cond (nat_lt room n) (Some BufferTooShort) None ≡ None
+has_room n room h = ap (λ b. cond b (Some BufferTooShort) None) (le-ltb room n h)
+
+-- what judging did to the rest of a buffer, seen in the whole
+module _ {K : Type 0} (keyed : Entry → ℕ → K) (le : K → K → Bool) (bytes : List ℕ) (a : ℕ) (xs ys : List ℕ) (room : a + 48 ≤ length xs) (size : length ys ≡ length (take (length xs - a) (drop a xs))) where
+  part : length ys ≡ length xs - a
+  part = size ∙ length-take-le (length xs - a) (drop a xs) (let l : length (drop a xs) ≡ length xs - a = length-drop a xs in omega arith)
+
+  pub verdict_at : (n : ℕ) → Prints keyed le bytes (take (length xs - a) (drop a xs)) ys (Ok n) → PrintsAt keyed le bytes a xs (put_mid a (length xs - a) xs ys) (Ok (a + n))
+  verdict_at n (r, (v, j, b, h)) = (v, j, line_at a n xs ys (verdict_line v) (omega arith) part b (omega arith), omega arith)
+
+  pub unjudged_at : (u : Unjudged) → Prints keyed le bytes (take (length xs - a) (drop a xs)) ys (Err u) → PrintsAt keyed le bytes a xs (put_mid a (length xs - a) xs ys) (Err u)
+  unjudged_at (Refused n) (r, (f, j, b, h)) = (f, j, line_at a n xs ys (fault_line f) (omega arith) part b (omega arith), h)
+  unjudged_at (Denied e) (r, same) = absurd (let z : Some e ≡ None = sym r ∙ has_room 48 (length (take (length xs - a) (drop a xs))) (omega (arith, size, part)) in cc)

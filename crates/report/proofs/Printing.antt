@@ -1,30 +1,15 @@
 -- The line of a bench that was prepared and given its runs is the line of its sheet.
-use Rattle.std.proofs.Common.{◌≡◌, ℕ, Bool, true, false, List, None, Option, sym, refl, ap, ◌∙◌, subst, arith}
-use Rattle.schedule.specs.Plan.{Plan}
+use Rattle.std.proofs.Common.{◌≡◌, ℕ, Bool, false, List, None, Option, sym, ap, ◌∙◌, subst}
 use Rattle.task.specs.declared.entry.Entry.{Entry}
-use Rattle.task.specs.declared.refusal.Refusal.{Refusal}
 use Rattle.task.specs.Tables.{entry_at, entries}
 use Rattle.policy.specs.Plans.{plan_of}
-use Rattle.bench.specs.declared.mode.Mode.{Mode}
-use Rattle.bench.specs.declared.mode.Mode.TheVariants.{Open, Running, Held, Missed}
-use Rattle.bench.specs.Judged.{GivenRuns, none, more, SinceStart, Judged}
-use Rattle.bench.specs.Lines.{room_refusal}
-use Rattle.bench.specs.Modes.{is_started, verdict_of}
-use Rattle.bench.specs.Steps.{View, with_mode, plan_for, start_refusal, line_refusal}
+use Rattle.bench.specs.declared.mode.Mode.TheVariants.{Open, Running}
+use Rattle.bench.specs.Judged.{GivenRuns, SinceStart, Judged}
+use Rattle.bench.specs.Modes.{verdict_of}
+use Rattle.bench.specs.Steps.{View, with_mode, plan_for, start_refusal}
 use Rattle.report.specs.Prints.{VerdictOfSheet}
 use Rattle.report.specs.Prepares.{Prepared}
-use Rattle.report.proofs.Giving.{stays_started}
 use Rattle.bench.proofs.Placing.{placed_entries}
-
-given_started : (p : Plan) (a : Mode) → (a ≡ Open → ⊥) → {n : ℕ} {b : Mode} → GivenRuns p a n b → b ≡ Open → ⊥
-given_started p a shut none = shut
-given_started p a shut (more {n} {b} {c} k r g) = stays_started p b c k g
-
-not_open : (mode : Mode) → (mode ≡ Open → ⊥) → is_started mode ≡ true
-not_open Open shut = absurd (shut refl)
-not_open (Running a) shut = refl
-not_open (Held a x y) shut = refl
-not_open (Missed a x y) shut = refl
 
 module _ {P K : Type 0} (keyed : P → Entry → ℕ → K) (le : P → K → K → Bool) (bytes : List ℕ) (v u w : View P) (pr : Prepared bytes v u)
     (runs : (u.mode ≡ Open → ⊥) → GivenRuns (plan_for keyed le u) u.mode 1000000000 w.mode) where
@@ -32,13 +17,7 @@ module _ {P K : Type 0} (keyed : P → Entry → ℕ → K) (le : P → K → K 
   mode_is = ap (λ x. x.mode) pr.after
 
   shut : u.mode ≡ Open → ⊥
-  shut e = let z : ◌≡◌ {A = ℕ} 0 1 = (let q = mode_is in cc) in omega arith
-
-  pub started_then : is_started w.mode ≡ true
-  started_then = not_open w.mode (given_started (plan_for keyed le u) u.mode shut (runs shut))
-
-  pub room_is : (room : ℕ) (o : Option Refusal) → line_refusal (is_started w.mode) room ≡ o → room_refusal room ≡ o
-  room_is room o h = ap (λ b. line_refusal b room) (sym started_then) ∙ h
+  shut e = let q = mode_is in cc
 
   module _ (policy : P) (policy_is : v.policy ≡ policy) (same : w ≡ with_mode u w.mode)
       (judged : (m n : ℕ) → SinceStart (plan_for keyed le w) (entry_at w.tasks) m n w.mode → Judged (plan_for keyed le w) m n (verdict_of w.mode)) where

@@ -8,6 +8,8 @@ use Rattle.bench.specs.declared.fault.Fault.{Fault}
 use Rattle.bench.specs.declared.verdict.Verdict.{Verdict}
 use Rattle.bench.specs.Lines.{verdict_line, fault_line}
 use Rattle.sheet.specs.Buffers.{BeginsWith}
+use Rattle.report.specs.declared.unjudged.Unjudged.{Unjudged}
+use Rattle.report.specs.declared.unjudged.Unjudged.TheVariants.{Denied, Refused}
 use Rattle.report.specs.Prints.{VerdictOfSheet, Faulty}
 
 -- the rank policy's key
@@ -30,6 +32,12 @@ pub data Report (bytes : List ℕ) : List ℕ → Type 0 where
 -- a report wants a buffer for four lines
 abbrev pub report_refusal : ℕ → Option Refusal
 report_refusal room = cond (nat_lt room 192) (Some BufferTooShort) None
+
+-- what is answered for a text, by whether it is of verdicts: the length, whichever it is
+abbrev pub report_answer : Result ℕ Unjudged → Result ℕ Refusal
+report_answer (Ok n) = Ok n
+report_answer (Err (Refused n)) = Ok n
+report_answer (Err (Denied e)) = Err e
 
 -- what reporting does to a buffer, by its answer: the text from the beginning and nothing else, or nothing
 abbrev pub Reports : (bytes before after : List ℕ) → Result ℕ Refusal → Type 0

@@ -9,7 +9,7 @@ ghost use Rattle.bench.specs.Steps.{plan_for, with_mode, GoesOn};
 ghost use Rattle.report.specs.Prints.{Prints};
 ghost use Rattle.report.specs.Prepares.{Prepares};
 
-use crate::printed::Printed;
+use crate::unjudged::Unjudged;
 use bench::bench::Bench;
 use bench::fault::Fault;
 use bench::lines::{LINE_LENGTH, fault_line};
@@ -48,36 +48,27 @@ fn give_runs<P: Policy>(bench: &mut Bench<P>)
     ensures view { view bench.new ≡ with_mode (view bench.old) bench.new.mode }
     ensures runs { (bench.old.mode ≢ Open) → GivenRuns (plan_for P.Policy.keyed P.Policy.precedes (view bench.old)) bench.old.mode 1000000000 bench.new.mode }
 {
-    for k in 0..RUNS {
+    for _ in 0..RUNS {
         if give_run(bench) {
             return;
         }
     }
 }
 
-/// Judges a sheet under a policy: writes the line to be printed from the buffer's beginning.
-pub fn judge<P: Policy + Drop>(policy: P, sheet: &[u8], line: &mut [u8]) -> Result<Printed, Refusal>
+/// Judges a sheet under a policy: writes the line to be printed from the buffer's beginning, and answers the length of a
+/// verdict's line.
+pub fn judge<P: Policy + Drop>(policy: P, sheet: &[u8], line: &mut [u8]) -> Result<usize, Unjudged>
     ensures { Prints (P.Policy.keyed policy) (P.Policy.precedes policy) sheet.now line.old line.new result }
 {
     if line.len() < LINE_LENGTH {
-        return Err(Refusal::BufferTooShort);
+        return Err(Unjudged::Denied(Refusal::BufferTooShort));
     }
     let mut bench = Bench::new(policy);
-    match prepare(&mut bench, sheet) {
-        Ok(()) => {
-            give_runs(&mut bench);
-            let length = bench.line(line)?;
-            Ok(Printed {
-                refused: false,
-                length,
-            })
-        }
-        Err(fault) => {
-            let length = fault_line(&fault, line)?;
-            Ok(Printed {
-                refused: true,
-                length,
-            })
-        }
+    if let Err(fault) = prepare(&mut bench, sheet) {
+        let length = fault_line(&fault, line)?;
+        return Err(Unjudged::Refused { length });
     }
+    give_runs(&mut bench);
+    let length = bench.line(line)?;
+    Ok(length)
 }

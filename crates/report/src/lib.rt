@@ -2,6 +2,9 @@
 
 #![tactic(auto)]
 
+/// A sheet under one policy.
 pub mod judge;
-pub mod printed;
+/// A sheet under four policies.
 pub mod report;
+/// Why there is no verdict.
+pub mod unjudged;

@@ -2,36 +2,23 @@
 
 #![tactic(auto)]
 
-use report::report::{REPORT_LENGTH, report};
+use arrayvec::ArrayVec;
+use report::report::report_text;
 use std::io;
 use std::io::{Read, Write};
 
 /// How many bytes of standard input are read: a longer input has the same first fault.
 const SHEET_LENGTH: usize = 4096;
 
-/// Reads standard input up to its end or until the buffer is full, and answers how many bytes there are.
-fn read_sheet(rt: &HostRuntime, buffer: &mut [u8; SHEET_LENGTH]) -> io::Result<usize> {
-    let mut input = rt.stdin();
-    let mut length = 0;
-    while length < SHEET_LENGTH {
-        let read = input.read(&mut buffer[length..])?;
-        if read == 0 {
-            break;
-        }
-        length += read;
-    }
-    Ok(length)
+/// Reads standard input up to its end or to so many bytes, without the heap, so that no sheet is turned down for memory.
+fn read_sheet(rt: &HostRuntime) -> io::Result<ArrayVec<u8, SHEET_LENGTH>> {
+    let mut sheet = ArrayVec::new();
+    io::copy(&mut rt.stdin().take(SHEET_LENGTH as u64), &mut sheet)?;
+    Ok(sheet)
 }
 
 fn main(rt: HostRuntime) -> io::Result<()> {
-    let mut buffer = [0u8; SHEET_LENGTH];
-    let length = read_sheet(&rt, &mut buffer)?;
-    let mut text = [0u8; REPORT_LENGTH];
-    if let Some(sheet) = buffer.get(0..length)
-        && let Ok(end) = report(sheet, &mut text)
-        && let Some(printed) = text.get(0..end)
-    {
-        rt.stdout().write_all(printed)?;
-    }
-    Ok(())
+    let sheet = read_sheet(&rt)?;
+    rt.stdout()
+        .write_all(report_text(sheet.as_slice()).as_slice())
 }

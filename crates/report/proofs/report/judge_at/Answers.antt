@@ -1,11 +1,11 @@
-use Rattle.std.proofs.Common.{◌≡◌, ◌-◌, length, drop, ◌∙◌, arith, length-drop}
-use Rattle.std.proofs.lemmas.List.{length-take-le}
-use Rattle.report.proofs.Lining.{line_at}
+use Rattle.std.proofs.lemmas.Result.{err_from_is_err_and}
+use Rattle.report.proofs.Lining.{verdict_at, unjudged_at}
 use Rattle.report.proofs.report.judge_at.Goals as goal
 
+pub returns-in_err-length : goal.returns-in_err-length
+returns-in_err-length g c =
+    let p = err_from_is_err_and c.from_residual.result c.from_residual.ensures.1 in
+    rw (p.1, p.2) (unjudged_at (g.P.Policy.keyed c.args.policy) (g.P.Policy.precedes c.args.policy) c.args.sheet.now c.args.at c.args.text.now c.judge.new.line c.requires c.judge.auto.line c.in_err-length.field-0.0 c.in_err-length.ensures)
+
 pub returns : goal.returns
-returns g c =
-    let q = c.in-Ok.ensures in
-    let xs = c.args.text.now in
-    let size : length c.judge.new.line ≡ length xs - c.args.at = c.judge.auto.line ∙ length-take-le (length xs - c.args.at) (drop c.args.at xs) (let l : length (drop c.args.at xs) ≡ length xs - c.args.at = length-drop c.args.at xs in omega arith) in
-    record { text = q.1.0; line = q.1.1; written = line_at c.args.at c.in-Ok.printed.length xs c.judge.new.line q.1.0 (omega arith) size q.1.2 (omega (arith, q.1.3)); short = q.1.3 }
+returns g c = verdict_at (g.P.Policy.keyed c.args.policy) (g.P.Policy.precedes c.args.policy) c.args.sheet.now c.args.at c.args.text.now c.judge.new.line c.requires c.judge.auto.line c.in_ok-length.length c.in_ok-length.ensures

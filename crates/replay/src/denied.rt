@@ -1,0 +1,57 @@
+use hex::FromHexError;
+use sheet::fault::LoadFault;
+use std::alloc::AllocError;
+use std::fmt;
+use task::refusal::Refusal;
+
+/// Why what a line asks for is not done.
+#[derive(Drop)]
+pub enum Denied {
+    /// The line is no call, or there is no bench to call.
+    Unreadable,
+    /// The call is refused.
+    Call(Refusal),
+    /// The sheet is not loaded.
+    Sheet(LoadFault),
+    /// There is no memory for it.
+    Memory(AllocError),
+}
+
+impl fmt::Display for Denied {
+    fn fmt<W: fmt::Write>(&self, f: &mut fmt::Formatter<W>) -> fmt::Result {
+        match self {
+            Denied::Unreadable => write!(f, "unreadable"),
+            Denied::Call(refusal) => write!(f, "refused {}", refusal.number()),
+            Denied::Sheet(fault) => write!(f, "refused {fault}"),
+            Denied::Memory(e) => write!(f, "{e}"),
+        }
+    }
+}
+
+impl From<Refusal> for Denied {
+    fn from(e: Refusal) -> Denied {
+        Denied::Call(e)
+    }
+}
+
+impl From<LoadFault> for Denied {
+    fn from(e: LoadFault) -> Denied {
+        Denied::Sheet(e)
+    }
+}
+
+impl From<AllocError> for Denied {
+    fn from(e: AllocError) -> Denied {
+        Denied::Memory(e)
+    }
+}
+
+/// A word that spells no bytes makes its line unreadable.
+impl From<FromHexError> for Denied {
+    fn from(e: FromHexError) -> Denied {
+        match e {
+            FromHexError::OutOfMemory => Denied::Memory(AllocError),
+            _ => Denied::Unreadable,
+        }
+    }
+}
