@@ -7,7 +7,6 @@ ghost use Rattle.trial.specs.Settled.{latest_prop, calm_prop};
 
 use crate::events::next_of;
 use crate::opening::Turn;
-use policy::sets::set_of;
 use task::task::Task;
 
 /// What is known of the instants from one event to the next, so that a slot need not find it anew: an event is an instant
@@ -68,7 +67,14 @@ impl<'a> Watch<'a> {
     pub(crate) fn missed_set(&self, left: &[u16; 32]) -> u32
         ensures { result ≡ word_of (λ i. misses (entry_at self.now.tasks.now i) self.now.calm (left_of left.now i)) 32 }
     {
-        set_of(|i| self.misses(i, left[i]))
+        // stays: a loop like that of the active set, since a function that is handed the test would ask that it may be called.
+        let mut set: u32 = 0;
+        for i in 0..32 {
+            if self.misses(i, left[i]) {
+                set |= 1 << i;
+            }
+        }
+        set
     }
 
     /// Rules 1 and 2 at the end of the calm instants, for every job.
