@@ -1,4 +1,4 @@
-//! Worked examples of the endless schedule: one table (specs/Rows.antt), each row under a sentence that says what it shows.
+//! Worked examples of the endless schedule: one table (specs/Rows.antt), each row with a name that says what it shows.
 //! The crate holds no state and no code that runs. The contract of the one function below says that every row is right, by
 //! the definitions that the contracts of the other crates cite, so that the crate is refused if one row is wrong.
 
