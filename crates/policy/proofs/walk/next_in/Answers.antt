@@ -15,3 +15,6 @@ returns c =
     let rest : s / 2 ^ low < 2 ^ 32 = omega (arith, shr_le s low) in
     let some : 0 < s / 2 ^ low = omega arith in
     record { next = next_on s low fits rest some; found = next_within s low fits rest some }
+
+pub returns-then-rest-eq0-clause-found : goal.returns-then-rest-eq0-clause-found
+returns-then-rest-eq0-clause-found c = search rules

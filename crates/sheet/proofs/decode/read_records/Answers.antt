@@ -31,3 +31,6 @@ loop-entry-preserved c =
     let a = entry_taken (entries c.loop-entry.table.tasks) (entries c.enter.new.self.tasks) c.in-Some.entry c.enter.result c.in_ok-map_err.field-0 c.enter.ensures.enters q in
     let g = went_on c.args.bytes.now c.loop-entry.rest.now c.in-Some.after.now c.in_ok-cpus.cpus place inv.0 c.in-Some.entry (entries c.loop-entry.table.tasks) (entries c.enter.new.self.tasks) inv.1 inv.2 inv.3 w a.0 a.1 in
     (inv.0 ++ c.in-Some.entry ∷ [], g.0, g.1, g.2)
+
+pub returns-in_default : goal.returns-in_default
+returns-in_default c = search rules

@@ -18,3 +18,6 @@ returns-after-fault-clause-short c =
 
 pub returns-in-Start-clause-short : goal.returns-in-Start-clause-short
 returns-in-Start-clause-short c = omega (arith, c.put_line-in-Start.ensures.long, length_one (codes "REFUSED B") c.from-in-Start.result, few_digits c.from-in-Start.result (omega arith))
+
+pub returns-in-Start-clause-text : goal.returns-in-Start-clause-text
+returns-in-Start-clause-text c = search rules

@@ -47,3 +47,6 @@ returns-then-ahead-self g c =
     let s = c.args.self.now in
     let l = c.loop-j in
     enough p.keyed (p.precedes s.policy.now) s c.args.job.now l.ahead c.in-Some.j l.j-iterator c.next.new.self c.in-Some.ensures.steps l.invariant.2 c.if-ahead-self.true
+
+pub returns : goal.returns
+returns g c = search rules

@@ -27,3 +27,6 @@ pub returns-else-few_ahead-clause-told : goal.returns-else-few_ahead-clause-told
 returns-else-few_ahead-clause-told g c =
     let p = g.P.Policy in
     counted p.keyed p.precedes c.args.self.now c.in-Some.job c.args.i c.in-Some.ensures false c.if-few_ahead.ensures
+
+pub returns-then-few_ahead-clause-marks : goal.returns-then-few_ahead-clause-marks
+returns-then-few_ahead-clause-marks g c = search rules

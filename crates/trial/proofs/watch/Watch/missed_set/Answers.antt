@@ -1,5 +1,5 @@
 -- Each place whose job misses sets its bit.
-use Rattle.std.proofs.Common.{ℕ, Bool, sym, ◌∙◌, arith}
+use Rattle.std.proofs.Common.{ℕ, Bool, sym, ◌∙◌}
 use Rattle.task.specs.Tables.{entry_at}
 use Rattle.policy.specs.Sets.{left_of}
 use Rattle.policy.proofs.Words.{word_none, word_set, word_keep}

@@ -1,0 +1,6 @@
+-- By computing: a wrong body is refused at once.
+use Rattle.std.proofs.Common.{refl}
+use Rattle.bench.proofs.fault.FaultFromLoadFault.from.Goals as goal
+
+pub returns : goal.returns
+returns c = refl
