@@ -27,7 +27,7 @@ module _ (at : ℕ → Option Entry) (m : ℕ) (good : cpus_refusal m ≡ None) 
     after_count : start_refusal false at m ≡ cond (ltb 10000000 (table_period at)) (Some HyperperiodTooLong) None
     after_count = after_cpus ∙ ap (λ b. cond b (Some NoTasks) (cond (ltb 10000000 (table_period at)) (Some HyperperiodTooLong) None)) (ne_eqb _ 0 some)
 
-    too_long_refused : 10000000 < table_period at → start_refusal false at m ≡ Some HyperperiodTooLong
+    pub too_long_refused : 10000000 < table_period at → start_refusal false at m ≡ Some HyperperiodTooLong
     too_long_refused h = after_count ∙ ap (λ b. cond b (Some HyperperiodTooLong) None) (lt-ltb 10000000 (table_period at) h)
 
     start_taken : table_period at ≤ 10000000 → start_refusal false at m ≡ None

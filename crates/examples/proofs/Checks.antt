@@ -1,5 +1,5 @@
 -- A row by one test that computes, and the rows of a table one after the other.
-use Rattle.std.proofs.Common.{◌≡◌, ℕ, zero, suc, ◌*◌, ◌<◌, ◌≤◌, Bool, true, false, not, ◌&&◌, cond, eqb, ltb, leb, ◌==◌, nat_lt, List, [], ◌∷◌, length, get_or, Option, None, Some, is_some, sym, refl, ap, ◌∙◌, mul_comm, mul-le-mul, mul-pos, zero-mul, arith}
+use Rattle.std.proofs.Common.{◌≡◌, ℕ, zero, suc, ◌*◌, ◌<◌, ◌≤◌, Bool, true, false, not, ◌&&◌, eqb, ltb, leb, List, [], ◌∷◌, length, get_or, Option, None, Some, is_some, sym, refl, ap, ◌∙◌, mul_comm, mul-le-mul, mul-pos, zero-mul, arith}
 use Rattle.std.specs.List.{AllByRecursion}
 use Rattle.std.proofs.lemmas.Bool.{and_parts, both_ways, leb-true, ltb-true, eqb-true, lt-ltb, le-ltb}
 use Rattle.schedule.specs.Counting.{count_below}
@@ -8,14 +8,14 @@ use Rattle.schedule.specs.Schedule.{has_cpu, config}
 use Rattle.schedule.specs.Verdict.{Verdict, Fixes}
 use Rattle.schedule.proofs.Same.{has_cpu_same}
 use Rattle.task.specs.declared.entry.Entry.{Entry}
-use Rattle.task.specs.declared.refusal.Refusal.{Refusal}
-use Rattle.task.specs.Rules.{outside}
+use Rattle.task.specs.Rules.{cpus_refusal}
 use Rattle.task.specs.Tables.{InBounds}
 use Rattle.policy.specs.Keys.{is_heavy}
 use Rattle.policy.specs.Sets.{left_of, word_of}
 use Rattle.policy.proofs.Words.{word_same}
 use Rattle.trial.specs.Cycles.{table_period}
 use Rattle.bench.specs.Steps.{start_refusal}
+use Rattle.bench.proofs.Refusing.{too_long_refused}
 use Rattle.examples.specs.Policies.{Policy, entry_in, plan_under}
 use Rattle.examples.specs.Kinds.{Row, VerdictAfter, LeftAt, RunningFrom, HeavyAt, AllHeavyAt, NoneHeavyAt, MayStart, TooLongToStart, Right}
 use Rattle.examples.proofs.Below.{every_below, at_each}
@@ -34,13 +34,6 @@ same_so false false e = refl
 none_so : {A : Type 0} (r : Option A) → not (is_some r) ≡ true → r ≡ None
 none_so None e = refl
 none_so (Some x) e = absurd (both_ways false refl e)
-
--- the last of the checks of a start refuses it, where none before it does
-last_check : (a b c : Bool) (e f g : Refusal) → not a && (not b && c) ≡ true → cond a (Some e) (cond b (Some f) (cond c (Some g) None)) ≡ Some g
-last_check true b c e f g h = absurd (both_ways false refl h)
-last_check false true c e f g h = absurd (both_ways false refl h)
-last_check false false true e f g h = refl
-last_check false false false e f g h = absurd (both_ways false refl h)
 
 no_entry : (es : List Entry) (i : ℕ) → length es ≤ i → is_some (entry_in es i) ≡ false
 no_entry [] i h = refl
@@ -65,7 +58,7 @@ right_test (HeavyAt a b e heavy) = same_test (is_heavy a b e) heavy
 right_test (AllHeavyAt a b) = eqb a 0 && ltb 0 b
 right_test (NoneHeavyAt a b) = leb b a
 right_test (MayStart m table period) = eqb (table_period (entry_in table)) period && not (is_some (start_refusal false (entry_in table) m))
-right_test (TooLongToStart m table period) = eqb (table_period (entry_in table)) period && (not (outside m 8) && (not (count_below 32 (λ i. is_some (entry_in table i)) == 0) && nat_lt 10000000 (table_period (entry_in table))))
+right_test (TooLongToStart m table period) = eqb (table_period (entry_in table)) period && (not (is_some (cpus_refusal m)) && (ltb 0 (count_below 32 (λ i. is_some (entry_in table i))) && ltb 10000000 (table_period (entry_in table))))
 
 module _ (policy : Policy) (m : ℕ) (table : List Entry) (fits : length table ≤ 32) where
   abbrev p : Plan
@@ -109,7 +102,11 @@ right_so (HeavyAt a b t heavy) e = same_so (is_heavy a b t) heavy e
 right_so (AllHeavyAt a b) e = let (f, g) = and_parts _ _ e in all_heavy a b (eqb-true _ _ f) (ltb-true _ _ g)
 right_so (NoneHeavyAt a b) e = none_heavy a b (leb-true _ _ e)
 right_so (MayStart m table period) e = let (f, g) = and_parts _ _ e in (eqb-true _ _ f, none_so _ g)
-right_so (TooLongToStart m table period) e = let (f, g) = and_parts _ _ e in (eqb-true _ _ f, last_check (outside m 8) (count_below 32 (λ i. is_some (entry_in table i)) == 0) (nat_lt 10000000 (table_period (entry_in table))) _ _ _ g)
+right_so (TooLongToStart m table period) e =
+    let (f, g) = and_parts _ _ e in
+    let (cpus, more) = and_parts (not (is_some (cpus_refusal m))) _ g in
+    let (some, long) = and_parts (ltb 0 (count_below 32 (λ i. is_some (entry_in table i)))) _ more in
+    (eqb-true _ _ f, too_long_refused (entry_in table) m (none_so (cpus_refusal m) cpus) (λ none. omega (arith, none, ltb-true 0 _ some)) (ltb-true 10000000 _ long))
 
 abbrev pub all_right_test : List Row → Bool
 all_right_test [] = true

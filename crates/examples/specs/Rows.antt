@@ -54,8 +54,8 @@ one_slot_is_left_of_the_third_at_boundary_one = LeftAt Deadline 2 staggered 16 (
 abbrev pub two_slots_are_left_of_the_third_at_boundary_two : Row
 two_slots_are_left_of_the_third_at_boundary_two = LeftAt Deadline 2 staggered 28 (1 ∷ 3 ∷ 2 ∷ [])
 
-abbrev pub boundary_three_is_as_boundary_two : Row
-boundary_three_is_as_boundary_two = LeftAt Deadline 2 staggered 40 (1 ∷ 3 ∷ 2 ∷ [])
+abbrev pub as_much_is_left_at_boundary_three_as_at_two : Row
+as_much_is_left_at_boundary_three_as_at_two = LeftAt Deadline 2 staggered 40 (1 ∷ 3 ∷ 2 ∷ [])
 
 -- A short deadline beside a long one.
 abbrev pub patient_and_urgent : List Entry
@@ -80,18 +80,18 @@ sharing = task 0 0 1 2 2 ∷ task 1 0 1 2 2 ∷ []
 abbrev pub of_two_level_jobs_the_lower_number_runs_first : Row
 of_two_level_jobs_the_lower_number_runs_first = RunningFrom Deadline 1 sharing 0 1
 
-abbrev pub then_the_other_runs : Row
-then_the_other_runs = RunningFrom Deadline 1 sharing 1 2
+abbrev pub in_the_next_slot_the_higher_number_runs : Row
+in_the_next_slot_the_higher_number_runs = RunningFrom Deadline 1 sharing 1 2
 
-abbrev pub and_so_both_hold : Row
-and_so_both_hold = VerdictAfter Deadline 1 sharing 2 (Holds 0 2)
+abbrev pub two_equal_tasks_in_turn_hold : Row
+two_equal_tasks_in_turn_hold = VerdictAfter Deadline 1 sharing 2 (Holds 0 2)
 
 -- An offset before the first boundary.
 abbrev pub at_its_offset_there_is_only_the_first_boundary : Row
 at_its_offset_there_is_only_the_first_boundary = VerdictAfter Deadline 1 (task 0 3 1 1 1 ∷ []) 3 (Running 3)
 
-abbrev pub a_period_later_the_second_agrees_with_it : Row
-a_period_later_the_second_agrees_with_it = VerdictAfter Deadline 1 (task 0 3 1 1 1 ∷ []) 4 (Holds 3 4)
+abbrev pub a_period_later_two_boundaries_agree : Row
+a_period_later_two_boundaries_agree = VerdictAfter Deadline 1 (task 0 3 1 1 1 ∷ []) 4 (Holds 3 4)
 
 -- Half a CPU is light.
 abbrev pub a_task_at_the_threshold_is_light : Row
@@ -101,24 +101,24 @@ abbrev pub a_task_above_the_threshold_is_heavy : Row
 a_task_above_the_threshold_is_heavy = HeavyAt 1 2 (task 2 0 5 5 5) true
 
 -- Thresholds at the ends: at 0 / 1 and at 1 / 1.
-abbrev pub above_nothing_every_task_is_heavy : Row
-above_nothing_every_task_is_heavy = AllHeavyAt 0 1
+abbrev pub at_threshold_zero_every_task_is_heavy : Row
+at_threshold_zero_every_task_is_heavy = AllHeavyAt 0 1
 
-abbrev pub above_nothing_the_lightest_is_heavy_too : Row
-above_nothing_the_lightest_is_heavy_too = HeavyAt 0 1 (task 1 0 1 60000 60000) true
+abbrev pub at_threshold_zero_even_the_lightest_task_is_heavy : Row
+at_threshold_zero_even_the_lightest_task_is_heavy = HeavyAt 0 1 (task 1 0 1 60000 60000) true
 
-abbrev pub above_a_whole_cpu_no_task_is_heavy : Row
-above_a_whole_cpu_no_task_is_heavy = NoneHeavyAt 1 1
+abbrev pub at_threshold_one_no_task_is_heavy : Row
+at_threshold_one_no_task_is_heavy = NoneHeavyAt 1 1
 
-abbrev pub above_a_whole_cpu_not_even_a_full_task_is_heavy : Row
-above_a_whole_cpu_not_even_a_full_task_is_heavy = HeavyAt 1 1 (task 2 0 5 5 5) false
+abbrev pub at_threshold_one_not_even_a_full_task_is_heavy : Row
+at_threshold_one_not_even_a_full_task_is_heavy = HeavyAt 1 1 (task 2 0 5 5 5) false
 
 -- The longest hyperperiods: at most 10,000,000.
-abbrev pub a_hyperperiod_a_little_shorter_starts : Row
-a_hyperperiod_a_little_shorter_starts = MayStart 1 (task 0 0 1 3161 3161 ∷ task 1 0 1 3162 3162 ∷ []) 9995082
+abbrev pub a_hyperperiod_just_short_enough_starts : Row
+a_hyperperiod_just_short_enough_starts = MayStart 1 (task 0 0 1 3161 3161 ∷ task 1 0 1 3162 3162 ∷ []) 9995082
 
-abbrev pub a_hyperperiod_a_little_longer_is_refused : Row
-a_hyperperiod_a_little_longer_is_refused = TooLongToStart 1 (task 0 0 1 3162 3162 ∷ task 1 0 1 3163 3163 ∷ []) 10001406
+abbrev pub a_hyperperiod_just_too_long_is_refused : Row
+a_hyperperiod_just_too_long_is_refused = TooLongToStart 1 (task 0 0 1 3162 3162 ∷ task 1 0 1 3163 3163 ∷ []) 10001406
 
 abbrev pub rows : List Row
 rows =
@@ -132,23 +132,23 @@ rows =
     ∷ nothing_is_left_of_the_third_at_boundary_zero
     ∷ one_slot_is_left_of_the_third_at_boundary_one
     ∷ two_slots_are_left_of_the_third_at_boundary_two
-    ∷ boundary_three_is_as_boundary_two
+    ∷ as_much_is_left_at_boundary_three_as_at_two
     ∷ by_deadlines_the_urgent_task_goes_first_and_all_hold
     ∷ by_ranks_the_urgent_task_waits_and_misses
     ∷ the_key_of_a_job_follows_its_age
     ∷ of_two_level_jobs_the_lower_number_runs_first
-    ∷ then_the_other_runs
-    ∷ and_so_both_hold
+    ∷ in_the_next_slot_the_higher_number_runs
+    ∷ two_equal_tasks_in_turn_hold
     ∷ at_its_offset_there_is_only_the_first_boundary
-    ∷ a_period_later_the_second_agrees_with_it
+    ∷ a_period_later_two_boundaries_agree
     ∷ a_task_at_the_threshold_is_light
     ∷ a_task_above_the_threshold_is_heavy
-    ∷ above_nothing_every_task_is_heavy
-    ∷ above_nothing_the_lightest_is_heavy_too
-    ∷ above_a_whole_cpu_no_task_is_heavy
-    ∷ above_a_whole_cpu_not_even_a_full_task_is_heavy
-    ∷ a_hyperperiod_a_little_shorter_starts
-    ∷ a_hyperperiod_a_little_longer_is_refused
+    ∷ at_threshold_zero_every_task_is_heavy
+    ∷ at_threshold_zero_even_the_lightest_task_is_heavy
+    ∷ at_threshold_one_no_task_is_heavy
+    ∷ at_threshold_one_not_even_a_full_task_is_heavy
+    ∷ a_hyperperiod_just_short_enough_starts
+    ∷ a_hyperperiod_just_too_long_is_refused
     ∷ []
 
 -- Every worked example is right.

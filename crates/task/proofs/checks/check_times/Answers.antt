@@ -2,8 +2,5 @@
 use Rattle.std.proofs.Common.{rules}
 use Rattle.task.proofs.checks.check_times.Goals as goal
 
-pub returns-then-entry-gt1000000 : goal.returns-then-entry-gt1000000
-returns-then-entry-gt1000000 c = search rules
-
 pub returns : goal.returns
 returns c = search rules
