@@ -4,7 +4,7 @@ use Rattle.std.proofs.lemmas.Bool.{le-ltb}
 use Rattle.schedule.specs.Counting.{count_below}
 use Rattle.schedule.proofs.Sums.{count_upto}
 use Rattle.task.specs.declared.entry.Entry.{Entry}
-use Rattle.policy.specs.declared.dispatch.Slot.{Slot}
+use Rattle.policy.specs.declared.slot.Slot.{Slot}
 use Rattle.policy.specs.declared.dispatch.Job.{Job}
 use Rattle.policy.specs.Dispatch.{ahead_of, count_ahead}
 use Rattle.policy.specs.Members.{has, members_from}

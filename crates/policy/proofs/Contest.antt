@@ -3,7 +3,7 @@ use Rattle.std.proofs.Common.{◌≡◌, ℕ, ◌+◌, ◌*◌, ◌%◌, ◌^◌
 use Rattle.schedule.specs.Counting.{count_below}
 use Rattle.task.specs.declared.entry.Entry.{Entry}
 use Rattle.task.specs.Tables.{entry_at}
-use Rattle.policy.specs.declared.dispatch.Slot.{Slot}
+use Rattle.policy.specs.declared.slot.Slot.{Slot}
 use Rattle.policy.specs.Dispatch.{runs_of}
 use Rattle.policy.specs.Members.{has, members_from}
 use Rattle.policy.specs.Sets.{left_of, word_of}

@@ -2,7 +2,7 @@
 use Rattle.std.proofs.Common.{◌≡◌, ℕ, Bool, false, cond, get_or, None, ap}
 use Rattle.task.specs.declared.entry.Entry.{Entry}
 use Rattle.task.specs.Tables.{entry_at}
-use Rattle.policy.specs.declared.dispatch.Slot.{Slot}
+use Rattle.policy.specs.declared.slot.Slot.{Slot}
 use Rattle.policy.specs.Dispatch.{key_at, since, ahead_of, runs_at, runs_of}
 use Rattle.policy.specs.Members.{has}
 use Rattle.policy.specs.Slots.{keys_of}

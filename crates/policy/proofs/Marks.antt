@@ -2,7 +2,7 @@
 use Rattle.std.proofs.Common.{◌≡◌, ℕ, ◌<◌, Bool, true, false, ltb, Some, None, Option, sym, ap, ◌∙◌, subst}
 use Rattle.std.specs.Option.{IfSome}
 use Rattle.task.specs.declared.entry.Entry.{Entry}
-use Rattle.policy.specs.declared.dispatch.Slot.{Slot}
+use Rattle.policy.specs.declared.slot.Slot.{Slot}
 use Rattle.policy.specs.declared.dispatch.Job.{Job}
 use Rattle.policy.specs.Dispatch.{count_ahead, runs_at, runs_of}
 use Rattle.policy.specs.Order.{stands_before}

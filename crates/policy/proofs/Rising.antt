@@ -24,6 +24,10 @@ module _ (set : ℕ) where
       let off : has set low ≡ false = h low (omega arith) (omega arith) in
       rw (e, f, off) (passed_over d (low + 1) n (λ k l m. h k (omega arith) (omega arith)))
 
+  -- the next member, or the end, is not passed by
+  pub next_past : (low r : ℕ) → low ≤ 32 → NextIn set low r → low ≤ r
+  next_past low r h n = ⊎_elim (λ (l : r < 32). n.onward l) (λ (l : 32 ≤ r). omega arith) (cases_lt r 32)
+
   -- to the next member, or to the end
   pub none_from : (low : ℕ) → NextIn set low 32 → members_from set low ≡ []
   none_from low n =
@@ -32,7 +36,7 @@ module _ (set : ℕ) where
 
   pub one_from : (low i : ℕ) → low ≤ 32 → NextIn set low i → i < 32 → members_from set low ≡ i ∷ members_from set (i + 1)
   one_from low i l n h =
-      let on = n.onward l in
+      let on = n.onward h in
       let e : 32 - low ≡ (i - low) + suc (32 - (i + 1)) = omega arith in
       let f : low + (i - low) ≡ i = omega arith in
       let at : has set i ≡ true = n.member h in
@@ -51,7 +55,7 @@ module _ (set : ℕ) where
   next_or_later n low e false off r =
       record {
         within = r.within;
-        onward = λ h. omega (arith, r.onward (omega arith));
+        onward = λ h. omega (arith, r.onward h);
         skipped = λ k h l.
             ⊎_elim
             (λ (u : low < k). r.skipped k (omega arith) l)
@@ -73,7 +77,7 @@ module _ (set : ℕ) where
 
   to_next : (low next : ℕ) → low ≤ 32 → NextIn set low next → members_from set low ≡ members_from set next
   to_next low next h n =
-      let on = n.onward h in
+      let on = next_past low next h n in
       let e : 32 - low ≡ (next - low) + (32 - next) = omega (arith, n.within) in
       let f : low + (next - low) ≡ next = omega arith in
       ap (rising set low) e ∙ (passed_over (next - low) low (32 - next) (λ k l m. n.skipped k l (omega arith)) ∙ rw f refl)

@@ -5,9 +5,10 @@ use Rattle.std.proofs.lemmas.Nat.{div-add-mod', mod_below, mod-mul-add}
 use Rattle.std.proofs.lemmas.Bool.{cases_lt, and_parts}
 use Rattle.task.specs.declared.entry.Entry.{Entry}
 use Rattle.policy.specs.Ages.{age_of}
-use Rattle.policy.specs.Dispatch.{since, is_active, Known}
+use Rattle.policy.specs.Dispatch.{since, is_active, Asking, Known}
 use Rattle.policy.specs.Releases.{Released, Latest}
 use Rattle.policy.specs.Sets.{left_of, word_of}
+use Rattle.policy.proofs.Words.{word_has}
 
 -- the age only rises, by less than what is left of the period
 pub age_rises : (a d T : ℕ) → a % T + d < T → (a + d) % T ≡ a % T + d
@@ -54,7 +55,13 @@ since_of : (o : Option Entry) (t b : ℕ) → Latest o t b → is_some o ≡ tru
 since_of None t b r h = absurd (cc)
 since_of (Some e) t b r h = since_is e t b r
 
--- the ages of the active jobs count from the latest releases
+-- the active jobs are tasks', and their ages count from the latest releases
+pub asking_at : (at : ℕ → Option Entry) (left : List ℕ) (set : ℕ) (released : List ℕ) (t : ℕ) → set ≡ word_of (is_active at left) 32
+    → ((i : ℕ) → i < 32 → Latest (at i) t (get_or released i 0)) → Asking at set released t
+asking_at at left set released t e r i h on =
+    let some = (and_parts (is_some (at i)) (ltb 0 (left_of left i)) (sym (word_has (is_active at left) set i e h) ∙ on)).0 in
+    (some, since_of (at i) t (get_or released i 0) (r i h) some)
+
 pub known_at : (at : ℕ → Option Entry) (left : List ℕ) (set : ℕ) (released : List ℕ) (t : ℕ) → set ≡ word_of (is_active at left) 32
     → ((i : ℕ) → i < 32 → Latest (at i) t (get_or released i 0)) → Known at left set released t
 known_at at left set released t e r =

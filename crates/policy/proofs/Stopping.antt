@@ -6,7 +6,7 @@ use Rattle.schedule.specs.Counting.{sum_below, count_below}
 use Rattle.schedule.proofs.Sums.{count_none, count_more, count_upto}
 use Rattle.policy.specs.Members.{has, NextIn}
 use Rattle.policy.specs.Sets.{bit, word_of}
-use Rattle.policy.proofs.Rising.{first, Turn}
+use Rattle.policy.proofs.Rising.{first, Turn, next_past}
 use Rattle.policy.proofs.Words.{word_none, word_set, word_keep}
 
 pub count_stops : (test : ℕ → Bool) (d n : ℕ) → ((k : ℕ) → n ≤ k → k < n + d → test k ≡ false) → count_below (n + d) test ≡ count_below n test
@@ -28,7 +28,7 @@ word_stops test (suc d) n h =
 -- from a number to the next member of a set, for a test that only members pass
 module _ (set low next : ℕ) (n : NextIn set low next) (h : low ≤ 32) (test : ℕ → Bool) (only : (k : ℕ) → has set k ≡ false → test k ≡ false) where
   there : low + (next - low) ≡ next
-  there = omega (arith, n.onward h)
+  there = omega (arith, next_past set low next h n)
 
   between : (k : ℕ) → low ≤ k → k < low + (next - low) → test k ≡ false
   between k l m = only k (n.skipped k l (omega (arith, there)))

@@ -15,7 +15,7 @@ module _ (set low : ℕ) where
   none_on z h =
       record {
         within = omega arith;
-        onward = λ l. l;
+        onward = λ l. absurd (omega arith);
         skipped = λ k l m. let q : set / 2 ^ k ≡ 0 = sym (from_low k l) ∙ (ap (λ n. n / 2 ^ (k - low)) z ∙ zero-div (2 ^ (k - low))) in ne_eqb ((set / 2 ^ k) % 2) 1 (λ e. omega arith);
         member = λ l. absurd (omega arith);
       }

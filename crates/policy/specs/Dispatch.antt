@@ -29,6 +29,12 @@ set_job keyed at set released t j = cond (has set j) (key_at keyed (at j) (since
 abbrev pub is_active : (ℕ → Option Entry) → List ℕ → ℕ → Bool
 is_active at left i = is_some (at i) && nat_lt 0 (left_of left i)
 
+-- at t, each job of the set is a task's, and its age counts from the instant in the list
+abbrev pub Asking : (ℕ → Option Entry) → (set : ℕ) (released : List ℕ) (t : ℕ) → Type 0
+Asking at set released t =
+    (i : ℕ) → i < 32 → has set i ≡ true
+    → (is_some (at i) ≡ true) × (since (slice_index released i) t ≡ age_of (at i) t)
+
 -- at t, the set is that of the active jobs, and their ages count from the instants in the list
 pub record Known (at : ℕ → Option Entry) (left : List ℕ) (set : ℕ) (released : List ℕ) (t : ℕ) : Type 0 where
   pub set_is : set ≡ word_of (is_active at left) 32

@@ -6,5 +6,6 @@ pub mod Sets
 pub mod Members
 pub mod Releases
 pub mod Dispatch
+pub mod Settled
 pub mod Groups
 pub mod Slots

@@ -10,7 +10,7 @@ pub record Released (e : Entry) (t b : ℕ) : Type 0 where
   pub first : t < b → b ≡ e.offset
   pub short : e.period ≤ 60000
 
--- the same of a place; of an empty one nothing is said
+-- the same of a place; of an empty one it is 0
 abbrev pub Latest : Option Entry → (t b : ℕ) → Type 0
-Latest None t b = Unit {0}
+Latest None t b = b ≡ 0
 Latest (Some e) t b = Released e t b

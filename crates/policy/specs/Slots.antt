@@ -3,7 +3,7 @@ use Rattle.std.specs.Prelude.{◌≡◌, ℕ, ◌<◌, Bool, true, false, List, 
 use Rattle.schedule.specs.Schedule.{has_cpu}
 use Rattle.task.specs.declared.entry.Entry.{Entry}
 use Rattle.task.specs.Tables.{entry_at}
-use Rattle.policy.specs.declared.dispatch.Slot.{Slot}
+use Rattle.policy.specs.declared.slot.Slot.{Slot}
 use Rattle.policy.specs.declared.dispatch.Job.{Job}
 use Rattle.policy.specs.declared.dispatch.Marks.{Marks}
 use Rattle.policy.specs.Dispatch.{set_job, runs_of, Known}

@@ -11,26 +11,9 @@ ghost use Rattle.policy.specs.Slots.{keys_of, Told, AreTold, Runs};
 use crate::policy::Policy;
 use crate::release::latest_releases;
 use crate::sets::set_of;
+use crate::slot::Slot;
 use crate::walk::members_of;
 use task::task::Task;
-
-/// The jobs that ask for the slot from an instant, a bit for each task, and how many CPUs there are for them. `released`
-/// has the instants that the jobs' ages count from.
-#[derive(Drop)]
-pub struct Slot<'a, P> {
-    /// The policy that orders the jobs.
-    pub policy: &'a P,
-    /// The tasks, each in the place of its number.
-    pub tasks: &'a [Option<Task>; 32],
-    /// For each place, the instant that the age of its job counts from.
-    pub released: &'a [u64; 32],
-    /// The active jobs, a bit for each task.
-    pub jobs: u32,
-    /// The instant that the slot begins at.
-    pub instant: u64,
-    /// How many CPUs there are.
-    pub cpus: u8,
-}
 
 // A job in a contest: the number of its task, and its key.
 #[derive(Drop)]

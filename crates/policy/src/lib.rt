@@ -20,5 +20,7 @@ pub mod rank;
 pub mod release;
 /// The set of the tasks that pass a test.
 pub mod sets;
+/// The jobs that ask for a slot.
+pub mod slot;
 /// The members of a set of tasks, one after another.
 pub mod walk;

@@ -5,7 +5,7 @@ ghost use Rattle.policy.specs.Releases.{Latest};
 use crate::age::age;
 use task::task::Task;
 
-// The instant of the latest release in a place at `t`, or the offset where no job was released yet.
+// The instant of the latest release in a place at `t`, or the offset where no job was released yet; 0 where there is no task.
 fn latest_release(place: &Option<Task>, t: u64) -> u64
     ensures { Latest (entry_of place.now) t result }
 {
@@ -18,7 +18,7 @@ fn latest_release(place: &Option<Task>, t: u64) -> u64
                 t - u64::from(age(task, t))
             }
         }
-        // stays: an instant of which nothing is said, since an Option would be unpacked for each job of a slot.
+        // stays: 0, since an Option would be unpacked for each job of a slot.
         None => 0,
     }
 }

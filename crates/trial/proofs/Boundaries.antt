@@ -20,9 +20,7 @@ module _ (p : Plan) (a : Trial) (missed : ℕ) (b : Trial) (s : Passes p a misse
   between_now ne =
       record {
         not_yet = λ e. ne (s.moved.later ∙ (sym e ∙ sym s.boundaries.next_kept));
-        next_kept = s.boundaries.next_kept;
-        last_kept = s.boundaries.last_kept;
-        saved_kept = s.boundaries.saved_kept;
+        kept = s.boundaries;
       }
 
   at_next : b.instant ≡ b.next → a.next ≡ a.instant + 1
@@ -31,6 +29,7 @@ module _ (p : Plan) (a : Trial) (missed : ℕ) (b : Trial) (s : Passes p a misse
   pub repeated_now : b.instant ≡ b.next → b.start < b.next → Equal b.left b.saved → Repeated a b
   repeated_now e l q =
       record {
+        kept = s.boundaries;
         reached = at_next e;
         second = omega (arith, s.boundaries.next_kept, s.moved.start_kept);
         equal = subst (Equal b.left) s.boundaries.saved_kept q;
@@ -40,6 +39,7 @@ module _ (p : Plan) (a : Trial) (missed : ℕ) (b : Trial) (s : Passes p a misse
     pub moved_on : Moved p a c
     moved_on =
         record {
+          early = s.moved.early;
           cpus_kept = k.cpus_kept ∙ s.moved.cpus_kept;
           start_kept = k.start_kept ∙ s.moved.start_kept;
           span_kept = k.span_kept ∙ s.moved.span_kept;

@@ -1,5 +1,5 @@
 -- The latest releases at an event, place by place, and until when nothing happens after it.
-use Rattle.std.proofs.Common.{◌≡◌, ℕ, ◌+◌, ◌<◌, List, set, get_or, min, Some, None, Option, sym, refl, subst, arith, below_more}
+use Rattle.std.proofs.Common.{◌≡◌, ℕ, ◌+◌, ◌<◌, List, set, get_or, min, Some, None, Option, sym, refl, ◌∙◌, subst, arith, below_more}
 use Rattle.task.specs.declared.entry.Entry.{Entry}
 use Rattle.task.specs.declared.task.Task.{Task}
 use Rattle.task.specs.Tables.{entry_at}
@@ -25,11 +25,11 @@ module _ (tasks : List (Option Task)) (t : ℕ) (was now : List ℕ) (event i : 
         omega (arith, r.2),
       )
 
-  pub renewed_kept : entry_at tasks i ≡ None → Renewed tasks t was now event (i + 1)
-  renewed_kept is =
+  pub renewed_kept : entry_at tasks i ≡ None → get_or was i 0 ≡ 0 → Renewed tasks t was now event (i + 1)
+  renewed_kept is zero =
       let L : Option Entry → Type 0 = λ o. Latest o t (get_or now i 0) in
       let C : Option Entry → Type 0 = λ o. (u : ℕ) → t < u → u < event → Calm o u in (
-        given_kept (λ k v. Latest (entry_at tasks k) t v) was now i r.0 (subst L (sym is) tt),
+        given_kept (λ k v. Latest (entry_at tasks k) t v) was now i r.0 (subst L (sym is) (r.0.2 i (omega arith) ∙ zero)),
         below_more _ _ r.1 (subst C (sym is) (λ u m n. record { no_release = refl; no_deadline = refl })),
         r.2,
       )

@@ -167,23 +167,24 @@ module _ {K : Type 0} (keyed : Entry → ℕ → K) (le : K → K → Bool) (at 
               span_is = mv.span_kept ∙ k.span_is;
               left_is = left_now;
               laps = k.laps;
-              next_is = x.next_kept ∙ k.next_is;
-              ahead = let ne : a.next ≡ a.instant + 1 → ⊥ = x.not_yet in omega (arith, x.next_kept, k.ahead, b_at);
+              next_is = x.kept.next_kept ∙ k.next_is;
+              ahead = let ne : a.next ≡ a.instant + 1 → ⊥ = x.not_yet in omega (arith, x.kept.next_kept, k.ahead, b_at);
               behind = λ j e. omega (arith, k.behind j e, b_at);
-              last_is = λ j e. x.last_kept ∙ k.last_is j e;
-              saved_is = λ j e i h. ap (λ xs. left_of xs i) x.saved_kept ∙ k.saved_is j e i h;
+              last_is = λ j e. x.kept.last_kept ∙ k.last_is j e;
+              saved_is = λ j e i h. ap (λ xs. left_of xs i) x.kept.saved_kept ∙ k.saved_is j e i h;
               quiet = quiet_b;
               apart = apart_b;
             }
 
     pub missed_now : (i : ℕ) → CameTo plan a b (Miss i) → Fixes plan way b.instant (Missed i b.instant)
     missed_now i told =
+        let low = told.0 in
         let first : FirstMiss plan way i (suc a.instant) =
         record {
-          task = told.0;
-          misses = true_miss i told.0 told.1;
+          task = low.0;
+          misses = true_miss i low.0 low.1;
           none_earlier = λ j u hj l. k.quiet j u hj (omega arith);
-          none_lower = λ j l miss. both_ways (missing plan a j) (told.2 j l) (miss_true j (omega (arith, told.0)) miss);
+          none_lower = λ j l miss. both_ways (missing plan a j) (low.2 j l) (miss_true j (omega (arith, low.0)) miss);
         } in
         (subst (FirstMiss plan way i) (sym b_at) first, omega arith)
 

@@ -55,6 +55,11 @@ released_before w i e h is =
     let L : Option Entry → Type 0 = λ o. Latest o (w.calm - 1) (get_or w.released i 0) in
     subst L is (latest_before w i (w.calm - 1) h (omega (arith, w.onward)) (omega (arith, w.onward)))
 
+pub none_released : (w : Watch) (i : ℕ) → i < 32 → entry_at w.tasks.now i ≡ None → get_or w.released i 0 ≡ 0
+none_released w i h is =
+    let L : Option Entry → Type 0 = λ o. Latest o w.since (get_or w.released i 0) in
+    subst L is (w.latest i h)
+
 -- the entry of what was read in a place
 pub entry_read : (tasks : List (Option Task)) (i : ℕ) (d o : Option Task) → i < length tasks → get_or tasks i d ≡ o → entry_at tasks i ≡ entry_of o
 entry_read tasks i d o h e = ap entry_of (get_or_default tasks i None d h ∙ e)

@@ -1,6 +1,5 @@
 -- What a watch knows of its instants is a fact: it has one proof at most.
 use Rattle.std.specs.Prelude.{ℕ, ◌<◌, Some, None, List, Option, slice_index}
-use Rattle.std.specs.Coded.{Unit-prop}
 use Rattle.std.proofs.Props.{props}
 use Rattle.task.specs.declared.entry.Entry.{Entry}
 use Rattle.task.specs.declared.task.Task.{Task}
@@ -9,7 +8,7 @@ use Rattle.policy.specs.Releases.{Latest}
 use Rattle.trial.specs.Places.{CalmUntil}
 
 place_prop : (o : Option Entry) (t b : ℕ) → IsProp (Latest o t b)
-place_prop None t b = Unit-prop
+place_prop None t b = hlevel props
 place_prop (Some e) t b = hlevel props
 
 pub latest_prop : (tasks : List (Option Task)) (t : ℕ) (released : List ℕ) → IsProp ((i : ℕ) → i < 32 → Latest (entry_at tasks i) t (slice_index released i))

@@ -9,7 +9,7 @@ use Rattle.policy.specs.Members.{has}
 use Rattle.policy.specs.Sets.{left_of, word_of}
 use Rattle.trial.specs.declared.trial.Trial.{Trial}
 use Rattle.trial.specs.declared.watch.Watch.{Watch}
-use Rattle.trial.specs.Trials.{after_slot, missing, Moved}
+use Rattle.trial.specs.Trials.{after_slot, missing, Moved, SameBoundaries}
 
 -- what is left of task i's job, where each active job of the set `ran` has lost 1
 abbrev pub worked : (active ran : ℕ) → List ℕ → ℕ → ℕ
@@ -21,12 +21,6 @@ pub record Watched (tasks : List (Option Task)) (a : Trial) (w : Watch) : Type 0
   pub begun : w.since ≤ a.instant
   pub not_over : a.instant < w.calm
   pub active_is : w.active ≡ word_of (is_active (entry_at tasks) a.left) 32
-
--- the boundaries are as they were
-pub record SameBoundaries (a b : Trial) : Type 0 where
-  pub next_kept : b.next ≡ a.next
-  pub last_kept : b.last ≡ a.last
-  pub saved_kept : b.saved ≡ a.saved
 
 -- b is a after rule 3 in the slot from its instant
 pub record Ticked (p : Plan) (a b : Trial) : Type 0 where

@@ -50,8 +50,10 @@ after_slot p a i = slot p a.cpus a.instant (left_of a.left) i
 abbrev pub missing : Plan → Trial → ℕ → Bool
 missing p a i = deadline_at p i (a.instant + 1) && nat_lt 0 (after_slot p a i)
 
--- b is a one slot later, with rules 1 and 2 applied at the new instant, and has the set of the tasks that ran
+-- b is a one slot later, with rules 1 and 2 applied at the new instant, and has the set of the tasks that ran; from the last
+-- instant on no slot is made
 pub record Moved (p : Plan) (a b : Trial) : Type 0 where
+  pub early : a.instant < 1000000000000000
   pub cpus_kept : b.cpus ≡ a.cpus
   pub start_kept : b.start ≡ a.start
   pub span_kept : b.span ≡ a.span
@@ -61,12 +63,16 @@ pub record Moved (p : Plan) (a b : Trial) : Type 0 where
 
 -- The boundaries that a trial has come by: `last` is the latest, with its configuration in `saved`, and `next` the one to come.
 
--- the new instant is no boundary, and nothing changes
-pub record Between (a b : Trial) : Type 0 where
-  pub not_yet : a.next ≡ a.instant + 1 → ⊥
+-- they are as they were
+pub record SameBoundaries (a b : Trial) : Type 0 where
   pub next_kept : b.next ≡ a.next
   pub last_kept : b.last ≡ a.last
   pub saved_kept : b.saved ≡ a.saved
+
+-- the new instant is no boundary, and nothing changes
+pub record Between (a b : Trial) : Type 0 where
+  pub not_yet : a.next ≡ a.instant + 1 → ⊥
+  pub kept : SameBoundaries a b
 
 -- the new instant is a boundary that does not agree with the one before, if there is one, and is the latest now
 pub record Passed (a b : Trial) : Type 0 where
@@ -76,8 +82,9 @@ pub record Passed (a b : Trial) : Type 0 where
   pub saved_is : b.saved ≡ b.left
   pub differs : a.start < a.next → ¬ Equal b.left a.saved
 
--- the new instant is a boundary that agrees with the one before
+-- the new instant is a boundary that agrees with the one before, and nothing changes
 pub record Repeated (a b : Trial) : Type 0 where
+  pub kept : SameBoundaries a b
   pub reached : a.next ≡ a.instant + 1
   pub second : a.start < a.next
   pub equal : Equal b.left a.saved
@@ -85,7 +92,7 @@ pub record Repeated (a b : Trial) : Type 0 where
 -- what one slot from a came to, where b is the trial after it
 abbrev pub CameTo : Plan → Trial → Trial → Outcome → Type 0
 CameTo p a b Ran = NonePasses (missing p a) × (Passed a b ⊎ Between a b)
-CameTo p a b (Missed i) = Lowest (missing p a) i
+CameTo p a b (Missed i) = Lowest (missing p a) i × SameBoundaries a b
 CameTo p a b (Agreed x y) = NonePasses (missing p a) × Repeated a b × (x ≡ a.last) × (y ≡ a.next)
 
 -- b is a after n slots, none of which decided
@@ -93,8 +100,8 @@ pub data Undecided (p : Plan) (a : Trial) : ℕ → Trial → Type 0 where
   here : Undecided p a 0 a
   on : {n : ℕ} {b c : Trial} → Undecided p a n b → Moved p b c → CameTo p b c Ran → Undecided p a (n + 1) c
 
--- A run of n slots from a to b: all of them undecided (or as many as come to an instant that no trial reaches undecided), or
--- fewer and then one that decides.
+-- A run of n slots from a to b: all of them undecided, or as many as come to the last instant, or fewer and then one that
+-- decides.
 abbrev pub Runs : Plan → Trial → ℕ → Outcome → Trial → Type 0
 Runs p a n Ran b = (j : ℕ) × Undecided p a j b × (j ≤ n) × ((j ≡ n) ⊎ (1000000000000000 ≤ b.instant))
 Runs p a n (Missed i) b = (j : ℕ) × (c : Trial) × Undecided p a j c × (j < n) × Moved p c b × CameTo p c b (Missed i)

@@ -9,9 +9,10 @@ ghost use Rattle.trial.specs.Slots.{Watched, Ticked, Passes, Marked};
 use crate::trial::{Outcome, Trial};
 use crate::watch::Watch;
 use crate::working::work;
-use policy::dispatch::{Slot, active_set};
+use policy::dispatch::active_set;
 use policy::policy::Policy;
 use policy::release::latest_releases;
+use policy::slot::Slot;
 use policy::walk::members_of;
 use task::task::Task;
 

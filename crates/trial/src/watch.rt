@@ -30,7 +30,7 @@ pub(crate) struct Watch<'a> {
 
 impl<'a> Watch<'a> {
     /// The task in place `i` at the end of the calm instants, if there is one.
-    // stays: `i < 32` is asked three times, as in `policy::dispatch::Slot`.
+    // stays: `i < 32` is asked three times, as of a `Slot`.
     fn turn(&self, i: usize) -> Option<Turn<'a>>
         requires { i < 32 }
         ensures { elim result [ None ↦ entry_at self.now.tasks.now i ≡ None | Some turn ↦ (entry_at self.now.tasks.now i ≡ Some turn.task.now.figures) × (turn.instant ≡ self.now.calm) ] }

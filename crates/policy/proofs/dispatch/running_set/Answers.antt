@@ -2,8 +2,13 @@
 use Rattle.task.specs.Tables.{entry_at}
 use Rattle.policy.specs.Sets.{left_of}
 use Rattle.policy.proofs.Ranks.{as_many_run}
-use Rattle.policy.proofs.Since.{known_at}
+use Rattle.policy.proofs.Since.{asking_at, known_at}
 use Rattle.policy.proofs.dispatch.running_set.Goals as goal
+
+pub invariant_of-slot : goal.invariant_of-slot
+invariant_of-slot g c =
+    let a = c.args in
+    record { asking = asking_at (entry_at a.tasks.now) a.left.now c.active_set-jobs.result c.latest_releases.result a.instant c.active_set-jobs.ensures c.latest_releases.ensures }
 
 pub returns : goal.returns
 returns g c =

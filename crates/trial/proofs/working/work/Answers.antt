@@ -3,7 +3,7 @@ use Rattle.std.proofs.lemmas.Bool.{and_from, and_right, lt-ltb, le-ltb}
 use Rattle.std.specs.Prelude.{bit_or}
 use Rattle.policy.specs.Members.{has}
 use Rattle.policy.specs.Sets.{left_of, word_of}
-use Rattle.policy.proofs.Rising.{first, Along, Turn, along_from, turn}
+use Rattle.policy.proofs.Rising.{first, Along, Turn, along_from, turn, next_past}
 use Rattle.policy.proofs.Stopping.{word_next}
 use Rattle.policy.proofs.Words.{word_none, word_set, word_keep}
 use Rattle.trial.specs.Slots.{worked}
@@ -55,7 +55,7 @@ module _ (active ran : ℕ) (was : List ℕ) where
       lost_one v e = e ∙ (ap (λ l. l - (ran / 2 ^ i) % 2) (here.2 i (omega arith)) ∙ sym (on_lost i now.member))
 
       goes_on : (v : ℕ) → v ≡ worked active ran was i → Given Worked was (set xs i v) (first more)
-      goes_on v e = given_on Worked was (set xs i v) (i + 1) (first more) (now.next.onward (omega (arith, now.within))) (given_more Worked was xs i v now.within here e) (λ k l h. sym (idle_kept k (now.next.skipped k l h)))
+      goes_on v e = given_on Worked was (set xs i v) (i + 1) (first more) (next_past active (i + 1) (first more) (omega (arith, now.within)) now.next) (given_more Worked was xs i v now.within here e) (λ k l h. sym (idle_kept k (now.next.skipped k l h)))
 
 pub loop-i-init : goal.loop-i-init
 loop-i-init c =

@@ -24,6 +24,7 @@ returns-then-self-watch g c =
           record {
             moved =
                 record {
+                  early = c.requires.instant;
                   cpus_kept = t.cpus_kept;
                   start_kept = t.start_kept;
                   span_kept = t.span_kept;
@@ -58,6 +59,7 @@ returns g c =
           record {
             moved =
                 record {
+                  early = c.requires.instant;
                   cpus_kept = t.cpus_kept;
                   start_kept = t.start_kept;
                   span_kept = t.span_kept;

@@ -61,7 +61,7 @@ returns-in-Some g c =
     let left : c.loop-i.i-iterator ≡ i ∷ c.next.new.self = c.in-Some.ensures.steps in
     let t = turn missed c.loop-i.i-iterator c.next.new.self i c.loop-i.invariant.2 left in
     let N : List ℕ → Type 0 = λ r. NextIn missed 0 (first r) in
-    (c.slots.counter, a, c.slots.invariant.0, omega arith, s.moved, lowest_passes (missing plan a) missed i s.missed_is (subst N left c.loop-i.invariant.3) t.within)
+    (c.slots.counter, a, c.slots.invariant.0, omega arith, s.moved, (lowest_passes (missing plan a) missed i s.missed_is (subst N left c.loop-i.invariant.3) t.within, s.boundaries))
 
 pub returns-then-agrees : goal.returns-then-agrees
 returns-then-agrees g c =

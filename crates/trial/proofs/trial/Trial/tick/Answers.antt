@@ -1,9 +1,16 @@
 use Rattle.std.proofs.Common.{refl}
 use Rattle.task.specs.Tables.{entry_at}
-use Rattle.policy.proofs.Since.{known_at}
+use Rattle.policy.proofs.Since.{asking_at, known_at}
 use Rattle.trial.proofs.Watching.{latest_before}
 use Rattle.trial.proofs.Slotwise.{worked_is, still_is}
 use Rattle.trial.proofs.trial.Trial.tick.Goals as goal
+
+pub invariant_of-slot : goal.invariant_of-slot
+invariant_of-slot g c =
+    let a = c.args.self.now in
+    let w = c.args.watch.now in
+    let s = c.requires.watched in
+    record { asking = asking_at (entry_at w.tasks.now) a.left w.active w.released a.instant s.active_is (λ i h. latest_before w i a.instant h s.begun s.not_over) }
 
 pub returns : goal.returns
 returns g c =

@@ -2,7 +2,7 @@ use Rattle.std.proofs.Common.{ℕ, ◌-◌, ◌<◌, length, sym, subst, arith, 
 use Rattle.std.proofs.lemmas.List.{set-get_or}
 use Rattle.policy.specs.Releases.{Released}
 use Rattle.trial.proofs.Renewing.{renewed_more, renewed_kept}
-use Rattle.trial.proofs.Watching.{entry_read, released_before}
+use Rattle.trial.proofs.Watching.{entry_read, released_before, none_released}
 use Rattle.trial.proofs.watch.Watch.renew.Goals as goal
 use Rattle.trial.proofs.watch.Watch.renew.Goals.{in-Some, in_default}
 
@@ -30,5 +30,5 @@ loop-i-preserved c =
           (renewed_more w.tasks.now w.calm w.released c.loop-i.released c.loop-i.event i so x.in-Some.task.figures x.renewed.result x.next_of.result (omega arith) (entry_read w.tasks.now i _ _ lt x.in-Some.is) x.renewed.ensures x.next_of.ensures.after x.next_of.ensures.calm)
       | in_default x ↦
           rw (x.released-is, x.event-is, set-get_or c.loop-i.released i 0)
-          (renewed_kept w.tasks.now w.calm w.released c.loop-i.released c.loop-i.event i so (entry_read w.tasks.now i _ _ lt x.in_default.is))
+          (renewed_kept w.tasks.now w.calm w.released c.loop-i.released c.loop-i.event i so (entry_read w.tasks.now i _ _ lt x.in_default.is) (none_released w i (omega arith) (entry_read w.tasks.now i _ _ lt x.in_default.is)))
     ]

@@ -1,8 +1,8 @@
 -- Each job that runs sets its bit, and where all is known the keys are those of the plan.
 use Rattle.std.proofs.Common.{◌∙◌}
 use Rattle.policy.proofs.Contest.{begins, one_runs, one_waits, all_seen, enough_run}
-use Rattle.policy.proofs.dispatch.Slot.contest.Goals as goal
-use Rattle.policy.proofs.dispatch.Slot.contest.Goals.{in-None, in-Some+then-found-self}
+use Rattle.policy.proofs.slot.Slot.contest.Goals as goal
+use Rattle.policy.proofs.slot.Slot.contest.Goals.{in-None, in-Some+then-found-self}
 
 pub loop-i-init : goal.loop-i-init
 loop-i-init g c =

@@ -2,8 +2,8 @@
 use Rattle.std.proofs.Common.{true, false, rules}
 use Rattle.policy.specs.Slots.{AreTold}
 use Rattle.policy.proofs.Marks.{counted, waits, goes_too}
-use Rattle.policy.proofs.dispatch.Slot.runs.Goals as goal
-use Rattle.policy.proofs.dispatch.Slot.runs.Goals.{in_default-via-in-None-1, in_default-via-in-Some-waiting+else-stands_before}
+use Rattle.policy.proofs.slot.Slot.runs.Goals as goal
+use Rattle.policy.proofs.slot.Slot.runs.Goals.{in_default-via-in-None-1, in_default-via-in-Some-waiting+else-stands_before}
 
 pub returns-clause-told : goal.returns-clause-told
 returns-clause-told g c =

@@ -1,6 +1,6 @@
 -- As many are counted as stand before the job, of those up to the next in the set.
 use Rattle.policy.proofs.Ahead.{Counted}
-use Rattle.policy.proofs.dispatch.Slot.few_ahead.Given as goal
+use Rattle.policy.proofs.slot.Slot.few_ahead.Given as goal
 
 abbrev pub invariant-loop-j : goal.invariant-loop-j
 invariant-loop-j g l =

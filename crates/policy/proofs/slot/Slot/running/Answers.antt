@@ -2,7 +2,7 @@
 use Rattle.std.proofs.Common.{arith}
 use Rattle.task.specs.Tables.{entry_at}
 use Rattle.policy.proofs.Running.{few_run}
-use Rattle.policy.proofs.dispatch.Slot.running.Goals as goal
+use Rattle.policy.proofs.slot.Slot.running.Goals as goal
 
 pub returns-then-self-from : goal.returns-then-self-from
 returns-then-self-from g c left known =

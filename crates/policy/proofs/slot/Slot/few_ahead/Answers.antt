@@ -3,8 +3,8 @@ use Rattle.std.proofs.Common.{◌≡◌, true, false, ◌∙◌, rules}
 use borrow.Author.Rules.{get_or_read}
 use Rattle.policy.specs.Members.{has}
 use Rattle.policy.proofs.Ahead.{before, begins, inside, one_before, one_behind, enough}
-use Rattle.policy.proofs.dispatch.Slot.few_ahead.Goals as goal
-use Rattle.policy.proofs.dispatch.Slot.few_ahead.Goals.{in_default-via-in-None-1, in_default-via-in-Some-tasks+else-stands_before}
+use Rattle.policy.proofs.slot.Slot.few_ahead.Goals as goal
+use Rattle.policy.proofs.slot.Slot.few_ahead.Goals.{in_default-via-in-None-1, in_default-via-in-Some-tasks+else-stands_before}
 
 pub loop-j-init : goal.loop-j-init
 loop-j-init g c =

@@ -1,6 +1,6 @@
 -- By the rules alone: a wrong body is refused at once.
 use Rattle.std.proofs.Common.{rules}
-use Rattle.policy.proofs.dispatch.Slot.job.Goals as goal
+use Rattle.policy.proofs.slot.Slot.job.Goals as goal
 
 pub returns-in_default : goal.returns-in_default
 returns-in_default g c = search rules

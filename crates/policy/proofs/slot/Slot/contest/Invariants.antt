@@ -1,7 +1,7 @@
 -- The set and the count so far are those of the jobs up to the next, and the marks are right.
 use Rattle.policy.specs.Slots.{AreTold}
 use Rattle.policy.proofs.Contest.{SoFar}
-use Rattle.policy.proofs.dispatch.Slot.contest.Given as goal
+use Rattle.policy.proofs.slot.Slot.contest.Given as goal
 
 abbrev pub invariant-loop-i : goal.invariant-loop-i
 invariant-loop-i g l =
