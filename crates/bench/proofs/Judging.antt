@@ -111,7 +111,7 @@ module _ {K : Type 0} (keyed : Entry → ℕ → K) (le : K → K → Bool) (tas
   settled n (Held a x y) i = (a.instant, i.0, i.1)
   settled n (Missed a j t) i = (a.instant, i.0, i.1)
 
-  pub where_judged : (n : ℕ) (a : Mode) → Where n a → Judged plan m n (verdict_of a)
+  where_judged : (n : ℕ) (a : Mode) → Where n a → Judged plan m n (verdict_of a)
   where_judged n a i =
       let t = settled n a i in
       record {
@@ -120,9 +120,6 @@ module _ {K : Type 0} (keyed : Entry → ℕ → K) (le : K → K → Bool) (tas
         promises = settled_verdicts_promise plan sound m n t.0 (meaning (verdict_of a)) t.1;
       }
 
-  pub since_judged : (n : ℕ) (a : Mode) → SinceStart plan at m n a → Judged plan m n (verdict_of a)
-  since_judged n a s = where_judged n a (since_where n a s)
-
   pub where_only : (n : ℕ) (a : Mode) → Where n a → OnlyVerdict plan m n (verdict_of a)
   where_only n a i =
       let t = settled n a i in
@@ -130,6 +127,9 @@ module _ {K : Type 0} (keyed : Entry → ℕ → K) (le : K → K → Bool) (tas
         judged = where_judged n a i;
         no_other = λ s w q. ((one_settled_verdict plan sound m n).1 s t.0 w (meaning (verdict_of a)) q t.1).1;
       }
+
+  pub since_only : (n : ℕ) (a : Mode) → SinceStart plan at m n a → OnlyVerdict plan m n (verdict_of a)
+  since_only n a s = where_only n a (since_where n a s)
 
   -- where the order is total and transitive, the count of the running set is that of the jobs that ran
   module _ (total : (a b : K) → (le a b ≡ true) ⊎ (le b a ≡ true)) (trans : (a b c : K) → le a b ≡ true → le b c ≡ true → le a c ≡ true) where

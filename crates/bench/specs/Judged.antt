@@ -34,15 +34,15 @@ pub record Judged (p : Plan) (m n : ℕ) (v : Verdict) : Type 0 where
   pub settles : Settles p m n instant (meaning v)
   pub promises : Promises p m n (meaning v)
 
--- the same of an answer; a refusal tells no verdict
-abbrev pub JudgedAnswer : Plan → (m n : ℕ) → Result Verdict Refusal → Type 0
-JudgedAnswer p m n (Ok v) = Judged p m n v
-JudgedAnswer p m n (Err e) = ⊥
-
 -- it is judged so, and there is no other such verdict
 pub record OnlyVerdict (p : Plan) (m n : ℕ) (v : Verdict) : Type 0 where
   pub judged : Judged p m n v
   pub no_other : (s : ℕ) (w : Theory.Verdict) → Settles p m n s w → w ≡ meaning v
+
+-- the same of an answer; a refusal tells no verdict
+abbrev pub JudgedAnswer : Plan → (m n : ℕ) → Result Verdict Refusal → Type 0
+JudgedAnswer p m n (Ok v) = OnlyVerdict p m n v
+JudgedAnswer p m n (Err e) = ⊥
 
 -- The word has a bit for each task that ran in the slot before the verdict's instant, and `count` counts them: it is the
 -- number of jobs that ran, which is the number of CPUs, or of active jobs where those are fewer.

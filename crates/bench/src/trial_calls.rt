@@ -2,7 +2,7 @@ ghost use Rattle.std.specs.Prelude.{◌≡◌, ℕ, ◌+◌};
 ghost use Rattle.task.specs.Tables.{entry_at};
 ghost use Rattle.bench.specs.Calls.{running_for, halting, asking_verdict, asking_set, asking_line, WrittenAnswer, Log};
 ghost use Rattle.bench.specs.EachCall.{Step};
-ghost use Rattle.bench.specs.Judged.{SinceStart, Judged, JudgedAnswer};
+ghost use Rattle.bench.specs.Judged.{SinceStart, OnlyVerdict, JudgedAnswer};
 ghost use Rattle.bench.specs.Law.{Made, Lawful, Law};
 ghost use Rattle.bench.specs.Modes.{is_started, while_started, verdict_of, set_of, is_decided};
 ghost use Rattle.bench.specs.Seen.{view};
@@ -193,7 +193,7 @@ impl<P: Policy> Bench<P> {
     pub fn line(&mut self, buffer: &mut [u8]) -> Result<usize, Refusal>
         ensures step { Lines (view self.old) buffer.old buffer.new result }
         ensures unchanged { self.new ≡ self.old }
-        ensures judged { (m n : ℕ) → SinceStart (plan_for P.Policy.keyed P.Policy.precedes (view self.old)) (entry_at self.old.table.tasks) m n self.old.mode → Judged (plan_for P.Policy.keyed P.Policy.precedes (view self.old)) m n (verdict_of self.old.mode) }
+        ensures judged { (m n : ℕ) → SinceStart (plan_for P.Policy.keyed P.Policy.precedes (view self.old)) (entry_at self.old.table.tasks) m n self.old.mode → OnlyVerdict (plan_for P.Policy.keyed P.Policy.precedes (view self.old)) m n (verdict_of self.old.mode) }
         ensures law { (p : P) (log : Log) → Made P.Policy.keyed P.Policy.precedes p log (view self.old) → Lawful (P.Policy.keyed p) (P.Policy.precedes p) log (asking_line buffer.old) (record { answer = result; buffer = buffer.new }) }
     {
         self.write_line(buffer)

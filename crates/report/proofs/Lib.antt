@@ -1,4 +1,5 @@
 pub mod Giving
 pub mod Printing
 pub mod Lining
+pub mod Single
 pub mod Reporting

@@ -4,7 +4,7 @@ use Rattle.task.specs.declared.entry.Entry.{Entry}
 use Rattle.task.specs.Tables.{entry_at, entries}
 use Rattle.policy.specs.Plans.{plan_of}
 use Rattle.bench.specs.declared.mode.Mode.TheVariants.{Open, Running}
-use Rattle.bench.specs.Judged.{GivenRuns, SinceStart, Judged}
+use Rattle.bench.specs.Judged.{GivenRuns, SinceStart, OnlyVerdict}
 use Rattle.bench.specs.Modes.{verdict_of}
 use Rattle.bench.specs.Steps.{View, with_mode, plan_for, start_refusal}
 use Rattle.report.specs.Prints.{VerdictOfSheet}
@@ -20,7 +20,7 @@ module _ {P K : Type 0} (keyed : P → Entry → ℕ → K) (le : P → K → K 
   shut e = let q = mode_is in cc
 
   module _ (policy : P) (policy_is : v.policy ≡ policy) (same : w ≡ with_mode u w.mode)
-      (judged : (m n : ℕ) → SinceStart (plan_for keyed le w) (entry_at w.tasks) m n w.mode → Judged (plan_for keyed le w) m n (verdict_of w.mode)) where
+      (judged : (m n : ℕ) → SinceStart (plan_for keyed le w) (entry_at w.tasks) m n w.mode → OnlyVerdict (plan_for keyed le w) m n (verdict_of w.mode)) where
     since : SinceStart (plan_for keyed le w) (entry_at w.tasks) pr.cpus 1000000000 w.mode
     since =
         let S : View P → Type 0 = λ x. SinceStart (plan_for keyed le x) (entry_at x.tasks) pr.cpus 1000000000 w.mode in
@@ -29,11 +29,11 @@ module _ {P K : Type 0} (keyed : P → Entry → ℕ → K) (le : P → K → K 
 
     pub verdict_of_sheet : VerdictOfSheet (keyed policy) (le policy) bytes (verdict_of w.mode)
     verdict_of_sheet =
-        let J : View P → Type 0 = λ x. Judged (plan_for keyed le x) pr.cpus 1000000000 (verdict_of w.mode) in
+        let J : View P → Type 0 = λ x. OnlyVerdict (plan_for keyed le x) pr.cpus 1000000000 (verdict_of w.mode) in
         let j : J (with_mode u w.mode) = subst J same (judged pr.cpus 1000000000 since) in
         let whose : u.policy ≡ policy = ap (λ x. x.policy) pr.after ∙ policy_is in
-        let Q : P → Type 0 = λ x. Judged (plan_of (keyed x) (le x) (entry_at u.tasks)) pr.cpus 1000000000 (verdict_of w.mode) in
-        let A : (ℕ → Option Entry) → Type 0 = λ at. Judged (plan_of (keyed policy) (le policy) at) pr.cpus 1000000000 (verdict_of w.mode) in
+        let Q : P → Type 0 = λ x. OnlyVerdict (plan_of (keyed x) (le x) (entry_at u.tasks)) pr.cpus 1000000000 (verdict_of w.mode) in
+        let A : (ℕ → Option Entry) → Type 0 = λ at. OnlyVerdict (plan_of (keyed policy) (le policy) at) pr.cpus 1000000000 (verdict_of w.mode) in
         let B : (ℕ → Option Entry) → Type 0 = λ at. start_refusal false at pr.cpus ≡ None in
         record {
           cpus = pr.cpus;

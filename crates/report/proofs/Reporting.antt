@@ -16,20 +16,8 @@ use Rattle.report.specs.declared.unjudged.Unjudged.TheVariants.{Denied, Refused}
 use Rattle.report.specs.Reports.{rank_of, Report, Reports, VerdictsOfSheet, verdicts, fault, report_answer}
 use lib.Signed.{le_z}
 use Rattle.report.proofs.Lining.{has_room}
+use Rattle.report.proofs.Single.{never_faulty}
 use Rattle.report.specs.Prints.{Faulty, no_sheet, no_start, VerdictOfSheet, PrintsAt}
-
-same_answer : (c d : ℕ) (p q : List (Option Entry)) → ◌≡◌ {A = Answer} (Ok (c, p)) (Ok (d, q)) → (c ≡ d) × (p ≡ q)
-same_answer c d p q e =
-    let pair : ◌≡◌ {A = ℕ × List (Option Entry)} (c, p) (d, q) = cc in
-    (ap (λ a. a.0) pair, ap (λ a. a.1) pair)
-
--- a sheet that is judged under one policy has no fault
-never_faulty : {A K : Type 0} (keyed : Entry → ℕ → K) (le : K → K → Bool) (bytes : List ℕ) (v : Verdict) (f : Fault) → VerdictOfSheet keyed le bytes v → Faulty bytes f → A
-never_faulty keyed le bytes v f j (no_sheet {f = g} d) = absurd (let e = one_answer bytes (Ok (j.cpus, j.places)) (Err g) j.decoded d in cc)
-never_faulty keyed le bytes v f j (no_start {cpus} {places} {e} d s) =
-    let (q, r) = same_answer cpus j.cpus places j.places (one_answer bytes (Ok (cpus, places)) (Ok (j.cpus, j.places)) d j.decoded) in
-    let n : start_refusal false (placed places) cpus ≡ None = ap (λ c. start_refusal false (placed places) c) q ∙ (ap (λ (p : List (Option Entry)). start_refusal false (placed p) j.cpus) r ∙ j.starts) in
-    absurd (let y : Some e ≡ None = sym s ∙ n in cc)
 
 -- the text of four verdicts, a line after another
 module _ (bytes : List ℕ) (d r hd hr : Verdict) (js : VerdictsOfSheet bytes d r hd hr) (before a b c after : List ℕ) (n₁ n₂ n₃ n₄ : ℕ)

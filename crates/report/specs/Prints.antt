@@ -8,7 +8,7 @@ use Rattle.policy.specs.Plans.{plan_of}
 use Rattle.bench.specs.declared.fault.Fault.{Fault}
 use Rattle.bench.specs.declared.fault.Fault.TheVariants.{Load, Start}
 use Rattle.bench.specs.declared.verdict.Verdict.{Verdict}
-use Rattle.bench.specs.Judged.{Judged}
+use Rattle.bench.specs.Judged.{OnlyVerdict}
 use Rattle.bench.specs.Lines.{verdict_line, fault_line, room_refusal}
 use Rattle.bench.specs.Refusing.{placed}
 use Rattle.bench.specs.Steps.{start_refusal}
@@ -24,13 +24,13 @@ pub data Faulty (bytes : List ℕ) : Fault → Type 0 where
 
 module _ {K : Type 0} (keyed : Entry → ℕ → K) (le : K → K → Bool) (bytes : List ℕ) where
   -- The bytes are a sheet whose table may start, and the verdict is the one that the endless schedule of that table and
-  -- those CPUs fixes for at most 1,000 runs of 1,000,000 slots.
+  -- those CPUs fixes for at most 1,000 runs of 1,000,000 slots, and no other.
   pub record VerdictOfSheet (v : Verdict) : Type 0 where
     pub cpus : ℕ
     pub places : List (Option Entry)
     pub decoded : Decodes bytes (Ok (cpus, places))
     pub starts : start_refusal false (placed places) cpus ≡ None
-    pub judged : Judged (plan_of keyed le (placed places)) cpus 1000000000 v
+    pub judged : OnlyVerdict (plan_of keyed le (placed places)) cpus 1000000000 v
 
   -- what judging does to a buffer, by its answer: the line from the beginning and nothing else, or nothing
   abbrev pub Prints : (before after : List ℕ) → Result ℕ Unjudged → Type 0

@@ -29,6 +29,10 @@ pub data Report (bytes : List ℕ) : List ℕ → Type 0 where
       → Report bytes (((verdict_line d ++ verdict_line r) ++ verdict_line hd) ++ verdict_line hr)
   fault : {f : Fault} → Faulty bytes f → Report bytes (fault_line f)
 
+-- any bytes have one text at most
+abbrev pub OneText : Type 0
+OneText = (bytes a b : List ℕ) → Report bytes a → Report bytes b → a ≡ b
+
 -- a report wants a buffer for four lines
 abbrev pub report_refusal : ℕ → Option Refusal
 report_refusal room = cond (nat_lt room 192) (Some BufferTooShort) None

@@ -1,6 +1,6 @@
 ghost use Rattle.std.specs.Prelude.{◌≡◌, ◌+◌, ◌≤◌, length};
 ghost use Rattle.report.specs.Prints.{PrintsAt};
-ghost use Rattle.report.specs.Reports.{Report, Reports, report_answer};
+ghost use Rattle.report.specs.Reports.{Report, Reports, OneText, report_answer};
 
 use crate::judge::judge;
 use crate::unjudged::Unjudged;
@@ -58,7 +58,8 @@ pub fn report(sheet: &[u8], text: &mut [u8]) -> Result<usize, Refusal>
 
 /// The text that is printed for a sheet: what `report` writes into a buffer of four lines.
 pub fn report_text(sheet: &[u8]) -> ArrayVec<u8, REPORT_LENGTH>
-    ensures { Report sheet.now result.items }
+    ensures text { Report sheet.now result.items }
+    ensures one_text { OneText }
 {
     let mut lines = [0u8; REPORT_LENGTH];
     let end = report(sheet, &mut lines).unwrap();

@@ -1,12 +1,12 @@
 use Rattle.std.proofs.Common.{refl}
 use Rattle.bench.specs.Calls.{asking_line, WrittenAnswer}
 use Rattle.bench.specs.Seen.{view}
-use Rattle.bench.proofs.Judging.{since_judged}
+use Rattle.bench.proofs.Judging.{since_only}
 use Rattle.bench.proofs.Keeping.{lawful}
 use Rattle.bench.proofs.bench.Bench.line.Goals as goal
 
 pub returns-clause-judged : goal.returns-clause-judged
-returns-clause-judged g c = λ m n s. let b = c.args.self.now in since_judged (g.P.Policy.keyed b.policy) (g.P.Policy.precedes b.policy) b.table.tasks m n b.mode s
+returns-clause-judged g c = λ m n s. let b = c.args.self.now in since_only (g.P.Policy.keyed b.policy) (g.P.Policy.precedes b.policy) b.table.tasks m n b.mode s
 
 pub returns-clause-law : goal.returns-clause-law
 returns-clause-law g c = λ p log m.
