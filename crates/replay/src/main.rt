@@ -27,7 +27,7 @@ mod words;
 
 use denied::Denied;
 use session::Session;
-use std::io::{BufRead, BufReader, BufWriter, Write};
+use std::io::{BufRead, BufReader, Write};
 
 /// Does what a line asks for, and prints the answer, if there is one. Lack of memory ends the script.
 fn replay_line<W: Write>(line: &[u8], session: &mut Session, out: &mut W) -> anyhow::Result<()> {
@@ -42,7 +42,7 @@ fn replay_line<W: Write>(line: &[u8], session: &mut Session, out: &mut W) -> any
 
 /// Goes through the lines of a script. A carriage return at the end of a line does not count.
 fn replay(rt: &HostRuntime) -> anyhow::Result<()> {
-    let mut out = BufWriter::new(rt.alloc(), rt.stdout())?;
+    let mut out = rt.stdout();
     let mut session = Session::new(rt.alloc());
     for line in BufReader::new(rt.alloc(), rt.stdin())?.split(rt.alloc(), b'\n') {
         let line = line?;
@@ -50,7 +50,6 @@ fn replay(rt: &HostRuntime) -> anyhow::Result<()> {
         let line = line.strip_suffix(b"\r").unwrap_or(line);
         replay_line(line, &mut session, &mut out)?;
     }
-    out.flush()?;
     Ok(())
 }
 
