@@ -252,6 +252,8 @@ def swapped_arms(lines, first, last):
 def in_tail(line, given, answer):
     """The other ways to write the last expression of a function with this type of an answer, whose parameters are given."""
     space, value = re.match(r"(\s*)(.*)", line).groups()
+    if array := re.match(r"\[u8; (\w+)\]", answer):
+        yield "another constant", f"{space}[0; {array.group(1)}]"
     if re.fullmatch(r"[ui]\d+|usize", answer):
         yield "constant by one", f"{space}({value}).saturating_sub(1)"
         yield "constant by one", f"{space}({value}).saturating_add(1)"
@@ -263,6 +265,8 @@ def in_tail(line, given, answer):
         yield "a dropped write", f"{space}Ok(())"
     if answer.startswith("Result<") and answer.endswith(", Refusal>") and not value.startswith("Err("):
         yield "a missed case", f"{space}Err(Refusal::NotStarted)"
+    if told := re.fullmatch(r"(Ok|Some)\((length|end|n)\)", value):
+        yield "constant by one", f"{space}{told.group(1)}({told.group(2)}.saturating_sub(1))"
     for name, kind in given.items():
         for found in re.finditer(rf"(?<![\w.]){name}\b(?![\w:(])", value):
             new = {"&[u8]": f"&{name}[..{name}.len() / 2]", "Refusal": "Refusal::NoTasks"}.get(kind)
@@ -299,9 +303,14 @@ def bugs_of(text, types):
         for at, news in swapped_arms(code_lines, first, last):
             add(span.name, at, "a missed case", news)
         answer = re.search(r"\) -> ([^{\n]+)", code[span.header : span.begin])
+        given = {name: kind.strip() for name, kind in re.findall(r"\b(\w+): ([^,)\n]+)", code[span.header : span.begin])}
+        for at in range(first, last + 1):
+            arm = re.match(r"(\s+(?:[^=]*=> )?)(Some\(.*\)|[^ {}]+?),?$", code_lines[at])
+            if arm and answer and code_lines[at].rstrip() == lines[at] and ("=>" in arm.group(1) or "=>" in code_lines[at - 1]):
+                for kind, new in in_tail(arm.group(2), {}, answer.group(1).strip()):
+                    add(span.name, at, kind, [arm.group(1) + new + "," * ("=>" in arm.group(1))])
         whole = re.search(r"[;{}]\s*$", bare("\n".join(code_lines[first : last - 1])))
         if last > first + 1 and whole and re.match(r"\s*[^\s});]", code_lines[last - 1]) and answer and code_lines[last - 1].rstrip() == lines[last - 1]:
-            given = {name: kind.strip() for name, kind in re.findall(r"\b(\w+): ([^,)\n]+)", code[span.header : span.begin])}
             for kind, new in in_tail(code_lines[last - 1], given, answer.group(1).strip()):
                 add(span.name, last - 2 + 1, kind, [new])
     for at, line in enumerate(code_lines):
