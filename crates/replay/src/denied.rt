@@ -1,3 +1,7 @@
+ghost use Rattle.std.specs.Prelude.{◌≡◌};
+ghost use Rattle.replay.specs.declared.denied.Denied.TheVariants.{Call, Sheet, Memory};
+ghost use Rattle.replay.specs.Denials.{of_digits, apart_of};
+
 use hex::FromHexError;
 use sheet::fault::LoadFault;
 use std::alloc::AllocError;
@@ -29,18 +33,24 @@ impl fmt::Display for Denied {
 }
 
 impl From<Refusal> for Denied {
+    ghost from_gives = { λ e r. r ≡ Call e };
+
     fn from(e: Refusal) -> Denied {
         Denied::Call(e)
     }
 }
 
 impl From<LoadFault> for Denied {
+    ghost from_gives = { λ e r. r ≡ Sheet e };
+
     fn from(e: LoadFault) -> Denied {
         Denied::Sheet(e)
     }
 }
 
 impl From<AllocError> for Denied {
+    ghost from_gives = { λ e r. r ≡ Memory e };
+
     fn from(e: AllocError) -> Denied {
         Denied::Memory(e)
     }
@@ -48,10 +58,22 @@ impl From<AllocError> for Denied {
 
 /// A word that spells no bytes makes its line unreadable.
 impl From<FromHexError> for Denied {
+    ghost from_gives = { λ e r. r ≡ of_digits e };
+
     fn from(e: FromHexError) -> Denied {
         match e {
             FromHexError::OutOfMemory => Denied::Memory(AllocError),
             _ => Denied::Unreadable,
         }
+    }
+}
+
+/// Lack of memory by itself, and what else came of a line as it was.
+pub fn apart<T>(told: Result<T, Denied>) -> Result<Result<T, Denied>, AllocError>
+    ensures { result ≡ apart_of told }
+{
+    match told {
+        Err(Denied::Memory(e)) => Err(e),
+        told => Ok(told),
     }
 }

@@ -25,16 +25,15 @@ mod script;
 mod session;
 mod words;
 
-use denied::Denied;
+use denied::apart;
 use session::Session;
 use std::io::{BufRead, BufReader, Write};
 
 /// Does what a line asks for, and prints the answer, if there is one. Lack of memory ends the script.
 fn replay_line<W: Write>(line: &[u8], session: &mut Session, out: &mut W) -> anyhow::Result<()> {
-    match session.answer(line) {
+    match apart(session.answer(line))? {
         Ok(None) => {}
         Ok(Some(answer)) => writeln!(out, "{answer}")?,
-        Err(Denied::Memory(e)) => return Err(e.into()),
         Err(denied) => writeln!(out, "{denied}")?,
     }
     Ok(())
