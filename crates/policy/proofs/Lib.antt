@@ -1,5 +1,6 @@
 pub mod Words
 pub mod Stopping
+pub mod Beginning
 pub mod Idle
 pub mod Ranks
 pub mod Running

@@ -88,11 +88,11 @@ module _ {K : Type 0} (keyed : Entry → ℕ → K) (le : K → K → Bool) wher
       same_key (at j) (has set j) (since (get_or released j 0) t) (age_of (at j) t) (left_of left j) on (λ h. k.ages_are j l (sym on ∙ h)))
 
   -- 2. where there are CPUs for all
-  idle_part : (a b c : Bool) → (a && b) ≡ false → (a && (b && c)) ≡ false
+  pub idle_part : (a b c : Bool) → (a && b) ≡ false → (a && (b && c)) ≡ false
   idle_part a b c e = grind arith
 
   module _ (at : ℕ → Option Entry) (left : List ℕ) (m t : ℕ) (few : count_below 32 (is_active at left) ≤ m) where
-    all_run : (i : ℕ) → i < 32 → is_active at left i ≡ has_cpu (plan_of keyed le at) m t (left_of left) i
+    pub all_run : (i : ℕ) → i < 32 → is_active at left i ≡ has_cpu (plan_of keyed le at) m t (left_of left) i
     all_run i h =
         ⊎_elim
         (λ (on : is_active at left i ≡ true).

@@ -1,5 +1,5 @@
 -- The active jobs of an instant by their keys, and which of them run.
-use Rattle.std.specs.Prelude.{◌≡◌, ℕ, ◌-◌, ◌%◌, ◌<◌, Bool, true, false, cond, ◌&&◌, List, is_some, Some, None, Option, nat_lt, slice_index}
+use Rattle.std.specs.Prelude.{◌≡◌, ℕ, ◌-◌, ◌%◌, ◌<◌, ◌≤◌, Bool, true, false, cond, ◌&&◌, List, is_some, Some, None, Option, nat_lt, slice_index}
 use Rattle.schedule.specs.Counting.{count_below}
 use Rattle.task.specs.declared.entry.Entry.{Entry}
 use Rattle.policy.specs.Ages.{age_of}
@@ -34,6 +34,10 @@ abbrev pub Asking : (ℕ → Option Entry) → (set : ℕ) (released : List ℕ)
 Asking at set released t =
     (i : ℕ) → i < 32 → has set i ≡ true
     → (is_some (at i) ≡ true) × (since (slice_index released i) t ≡ age_of (at i) t)
+
+-- every job of the set was released by t
+abbrev pub Begun : (set : ℕ) (released : List ℕ) (t : ℕ) → Type 0
+Begun set released t = (i : ℕ) → i < 32 → has set i ≡ true → slice_index released i ≤ t
 
 -- at t, the set is that of the active jobs, and their ages count from the instants in the list
 pub record Known (at : ℕ → Option Entry) (left : List ℕ) (set : ℕ) (released : List ℕ) (t : ℕ) : Type 0 where

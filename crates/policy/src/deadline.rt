@@ -24,6 +24,10 @@ impl Policy for Deadline {
         i64::from(task.deadline()) - i64::from(age)
     }
 
+    fn is_steady(&self) -> bool {
+        true
+    }
+
     fn at_or_before(&self, a: &i64, b: &i64) -> bool {
         *a <= *b
     }

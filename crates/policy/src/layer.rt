@@ -33,6 +33,10 @@ impl<P: Policy> Policy for HeavyFirst<P> {
         }
     }
 
+    fn is_steady(&self) -> bool {
+        self.below.is_steady()
+    }
+
     fn at_or_before(&self, a: &Weighed<P::Key>, b: &Weighed<P::Key>) -> bool {
         if a.heavy == b.heavy {
             self.below.at_or_before(&a.below, &b.below)

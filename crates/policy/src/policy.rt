@@ -1,5 +1,6 @@
 ghost use Rattle.std.specs.Prelude.{◌≡◌, ℕ, Bool, true, ◌⊎◌};
 ghost use Rattle.task.specs.declared.entry.Entry.{Entry};
+ghost use Rattle.policy.specs.Order.{Steady};
 
 use task::task::Task;
 
@@ -21,6 +22,14 @@ pub trait Policy {
     /// Whether key `a` is at or before key `b`.
     fn at_or_before(&self, a: &Self::Key, b: &Self::Key) -> bool
         ensures { result ≡ precedes self.now a.now b.now };
+
+    /// Whether the order of two jobs stays as it is while both grow older, so that the jobs that run need not be chosen anew
+    /// in each slot. A policy that does not say so is asked anew.
+    fn is_steady(&self) -> bool
+        ensures { result ≡ true → Steady (keyed self.now) (precedes self.now) }
+    {
+        false
+    }
 
     ghost total: { (p : Self) (a b : Self.Key) → (precedes p a b ≡ true) ⊎ (precedes p b a ≡ true) };
 

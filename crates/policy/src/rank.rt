@@ -23,6 +23,10 @@ impl Policy for Rank {
         task.rank()
     }
 
+    fn is_steady(&self) -> bool {
+        true
+    }
+
     fn at_or_before(&self, a: &u8, b: &u8) -> bool {
         *a <= *b
     }

@@ -4,7 +4,8 @@ pub mod Periods
 pub mod Slotwise
 pub mod Watching
 pub mod Giving
-pub mod Renewing
+pub mod Happening
+pub mod Lasting
 pub mod Boundaries
 pub mod Tasks
 pub mod Standing

@@ -2,16 +2,18 @@
 use Rattle.std.proofs.Common.{◌≡◌, ℕ, zero, suc, ◌+◌, ◌-◌, ◌<◌, ◌≤◌, List, length, get_or, Some, None, Option, sym, ap, ◌∙◌, subst, ⊎_elim, arith}
 use Rattle.std.proofs.lemmas.Bool.{both_ways, cases_lt}
 use Rattle.std.proofs.lemmas.List.{get_or_default}
+use Rattle.schedule.specs.Plan.{Plan}
+use Rattle.schedule.specs.Schedule.{has_cpu}
 use Rattle.task.specs.declared.entry.Entry.{Entry}
 use Rattle.task.specs.declared.task.Task.{Task}
 use Rattle.task.specs.Tables.{entry_of, entry_at}
 use Rattle.policy.specs.Dispatch.{is_active}
 use Rattle.policy.specs.Releases.{Released, Latest}
-use Rattle.policy.specs.Sets.{word_of}
+use Rattle.policy.specs.Sets.{left_of, word_of}
 use Rattle.trial.specs.declared.trial.Trial.{Trial}
 use Rattle.trial.specs.declared.watch.Watch.{Watch}
 use Rattle.trial.specs.Places.{releases, Calm}
-use Rattle.trial.specs.Slots.{Watched, Marked}
+use Rattle.trial.specs.Slots.{Lasts, RunsOn, Watched, Marked}
 use Rattle.trial.proofs.Ages.{release_again}
 
 goes_on : (e : Entry) (t b : ℕ) → Released e t b → Calm (Some e) (t + 1) → Released e (t + 1) b
@@ -64,11 +66,26 @@ none_released w i h is =
 pub entry_read : (tasks : List (Option Task)) (i : ℕ) (d o : Option Task) → i < length tasks → get_or tasks i d ≡ o → entry_at tasks i ≡ entry_of o
 entry_read tasks i d o h e = ap entry_of (get_or_default tasks i None d h ∙ e)
 
-pub watched_still : (tasks : List (Option Task)) (a b : Trial) (w : Watch) → Watched tasks a w → Marked a b → Watched tasks b w
-watched_still tasks a b w s k =
+-- where the trial stays, its jobs run on
+still_runs : (p : Plan) (a b : Trial) → RunsOn p a → Marked a b → RunsOn p b
+still_runs p a b r k =
+    let word : ℕ → ℕ → List ℕ → ℕ = λ m t c. word_of (has_cpu p m t (left_of c)) 32 in
+    let same : word a.cpus a.instant a.left ≡ word b.cpus b.instant b.left =
+    ap (λ m. word m a.instant a.left) (sym k.cpus_kept) ∙ (ap (λ t. word b.cpus t a.left) (sym k.instant_kept) ∙ ap (word b.cpus b.instant) (sym k.left_kept)) in
+    let L₁ : ℕ → Type 0 = λ m. Lasts p m a.instant (left_of a.left) in
+    let L₂ : ℕ → Type 0 = λ t. Lasts p b.cpus t (left_of a.left) in
+    let L₃ : List ℕ → Type 0 = λ c. Lasts p b.cpus b.instant (left_of c) in
+    record {
+      ran_is = k.ran_kept ∙ (r.ran_is ∙ same);
+      lasts = subst L₃ (sym k.left_kept) (subst L₂ (sym k.instant_kept) (subst L₁ (sym k.cpus_kept) r.lasts));
+    }
+
+pub watched_still : (p : Plan) (tasks : List (Option Task)) (a b : Trial) (w : Watch) → Watched p tasks a w → Marked a b → Watched p tasks b w
+watched_still p tasks a b w s k =
     record {
       tasks_are = s.tasks_are;
       begun = omega (arith, s.begun, k.instant_kept);
       not_over = omega (arith, s.not_over, k.instant_kept);
+      runs_on = λ h. still_runs p a b (s.runs_on h) k;
       active_is = s.active_is ∙ ap (λ xs. word_of (is_active (entry_at tasks) xs) 32) (sym k.left_kept);
     }

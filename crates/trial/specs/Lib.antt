@@ -1,4 +1,5 @@
 pub mod Places
+pub mod Arriving
 pub mod Settled
 pub mod Cycles
 pub mod Trials

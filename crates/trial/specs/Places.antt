@@ -1,8 +1,6 @@
 -- What an instant makes of one place of the table: the rules of the endless schedule, read off the figures in the place.
-use Rattle.std.specs.Prelude.{◌≡◌, ℕ, ◌-◌, ◌<◌, Bool, false, cond, ◌&&◌, List, is_some, Option, ◌==◌, nat_le, nat_lt}
+use Rattle.std.specs.Prelude.{◌≡◌, ℕ, ◌-◌, ◌<◌, Bool, false, cond, ◌&&◌, is_some, Option, ◌==◌, nat_le, nat_lt}
 use Rattle.task.specs.declared.entry.Entry.{Entry}
-use Rattle.task.specs.declared.task.Task.{Task}
-use Rattle.task.specs.Tables.{entry_at}
 use Rattle.policy.specs.Ages.{age_of}
 use Rattle.policy.specs.Plans.{offset_of, time_of, deadline_of}
 
@@ -27,6 +25,6 @@ pub record Calm (o : Option Entry) (t : ℕ) : Type 0 where
   pub no_release : (is_some o && releases o t) ≡ false
   pub no_deadline : is_due o t ≡ false
 
--- every instant after t and before u is calm in every place
-abbrev pub CalmUntil : List (Option Task) → (t u : ℕ) → Type 0
-CalmUntil tasks t u = (i : ℕ) → i < 32 → (v : ℕ) → t < v → v < u → Calm (entry_at tasks i) v
+-- every instant after t and before u is calm in the place
+abbrev pub CalmUntil : Option Entry → (t u : ℕ) → Type 0
+CalmUntil o t u = (v : ℕ) → t < v → v < u → Calm o v

@@ -1,5 +1,5 @@
 -- What a watch knows of its instants is a fact: it has one proof at most.
-use Rattle.std.specs.Prelude.{ℕ, ◌<◌, Some, None, List, Option, slice_index}
+use Rattle.std.specs.Prelude.{ℕ, ◌<◌, ◌≤◌, Some, None, List, Option, slice_index}
 use Rattle.std.proofs.Props.{props}
 use Rattle.task.specs.declared.entry.Entry.{Entry}
 use Rattle.task.specs.declared.task.Task.{Task}
@@ -14,5 +14,8 @@ place_prop (Some e) t b = hlevel props
 pub latest_prop : (tasks : List (Option Task)) (t : ℕ) (released : List ℕ) → IsProp ((i : ℕ) → i < 32 → Latest (entry_at tasks i) t (slice_index released i))
 latest_prop tasks t released = hlevel (props, place_prop)
 
-pub calm_prop : (tasks : List (Option Task)) (t u : ℕ) → IsProp (CalmUntil tasks t u)
-calm_prop tasks t u = hlevel props
+pub calm_prop : (tasks : List (Option Task)) (t : ℕ) (events : List ℕ) → IsProp ((i : ℕ) → i < 32 → CalmUntil (entry_at tasks i) t (slice_index events i))
+calm_prop tasks t events = hlevel props
+
+pub soonest_prop : (calm : ℕ) (events : List ℕ) → IsProp ((i : ℕ) → i < 32 → calm ≤ slice_index events i)
+soonest_prop calm events = hlevel props

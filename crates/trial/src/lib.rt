@@ -2,6 +2,8 @@
 
 #![tactic(auto)]
 
+/// What an event makes of a place.
+pub mod arriving;
 /// The largest offset and the hyperperiod of a table.
 pub mod cycle;
 /// The next event of a task.

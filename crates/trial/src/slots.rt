@@ -1,10 +1,10 @@
-ghost use Rattle.std.specs.Prelude.{◌≡◌, ◌<◌, ◌≤◌, Decides};
+ghost use Rattle.std.specs.Prelude.{◌≡◌, ◌<◌, ◌≤◌, true, Decides};
 ghost use Rattle.task.specs.Tables.{entry_at};
 ghost use Rattle.policy.specs.Plans.{plan_of};
 ghost use Rattle.policy.specs.Dispatch.{is_active};
 ghost use Rattle.policy.specs.Sets.{word_of};
 ghost use Rattle.trial.specs.Trials.{Equal, Runs};
-ghost use Rattle.trial.specs.Slots.{Watched, Ticked, Passes, Marked};
+ghost use Rattle.trial.specs.Slots.{Chosen, SameInstants, NoneFinished, Watched, Ticked, Passes, Marked};
 
 use crate::trial::{Outcome, Trial};
 use crate::watch::Watch;
@@ -20,12 +20,10 @@ use task::task::Task;
 pub const LAST_INSTANT: u64 = 1_000_000_000_000_000;
 
 impl Trial {
-    /// Rule 3: the slot from the trial's instant. Answers the jobs that are active still.
-    fn tick<P: Policy>(&mut self, policy: &P, watch: &Watch) -> u32
-        requires instant { self.old.instant < 1000000000000000 }
-        requires watched { Watched watch.now.tasks.now self.old watch.now }
-        ensures ticked { Ticked (plan_of (P.Policy.keyed policy.now) (P.Policy.precedes policy.now) (entry_at watch.now.tasks.now)) self.old self.new }
-        ensures still { result ≡ word_of (is_active (entry_at watch.now.tasks.now) self.new.left) 32 }
+    /// Chooses the jobs that run in the slot from the trial's instant.
+    fn choose<P: Policy>(&mut self, policy: &P, watch: &mut Watch)
+        requires { Watched (plan_of (P.Policy.keyed policy.now) (P.Policy.precedes policy.now) (entry_at watch.old.tasks.now)) watch.old.tasks.now self.old watch.old }
+        ensures { Chosen (plan_of (P.Policy.keyed policy.now) (P.Policy.precedes policy.now) (entry_at watch.old.tasks.now)) self.old watch.old self.new watch.new }
     {
         let slot = Slot {
             policy,
@@ -35,28 +33,43 @@ impl Trial {
             instant: self.instant,
             cpus: self.cpus,
         };
-        let ran = slot.running();
-        let still = work(&mut self.left, watch.active, ran);
-        self.ran = ran;
+        self.ran = slot.running();
+        watch.lasts = slot.lasts();
+    }
+
+    /// Rule 3: the slot from the trial's instant.
+    fn tick<P: Policy>(&mut self, policy: &P, watch: &mut Watch)
+        requires instant { self.old.instant < 1000000000000000 }
+        requires watched { Watched (plan_of (P.Policy.keyed policy.now) (P.Policy.precedes policy.now) (entry_at watch.old.tasks.now)) watch.old.tasks.now self.old watch.old }
+        ensures ticked { Ticked (plan_of (P.Policy.keyed policy.now) (P.Policy.precedes policy.now) (entry_at watch.old.tasks.now)) self.old self.new }
+        ensures watch { SameInstants watch.old watch.new }
+        ensures active { watch.new.active ≡ word_of (is_active (entry_at watch.old.tasks.now) self.new.left) 32 }
+        ensures lasts { watch.new.lasts ≡ true → NoneFinished (plan_of (P.Policy.keyed policy.now) (P.Policy.precedes policy.now) (entry_at watch.old.tasks.now)) self.old self.new }
+    {
+        if !watch.lasts {
+            self.choose(policy, watch);
+        }
+        if work(&mut self.left, self.ran) {
+            watch.active = active_set(watch.tasks, &self.left);
+            watch.lasts = false;
+        }
         self.instant += 1;
-        still
     }
 
     /// One slot and the instant after it. Answers the tasks that miss there, a bit for each.
     fn pass<P: Policy>(&mut self, policy: &P, watch: &mut Watch) -> u32
         requires instant { self.old.instant < 1000000000000000 }
-        requires watched { Watched watch.old.tasks.now self.old watch.old }
+        requires watched { Watched (plan_of (P.Policy.keyed policy.now) (P.Policy.precedes policy.now) (entry_at watch.old.tasks.now)) watch.old.tasks.now self.old watch.old }
         ensures passes { Passes (plan_of (P.Policy.keyed policy.now) (P.Policy.precedes policy.now) (entry_at watch.old.tasks.now)) self.old result self.new }
-        ensures watched { Watched watch.old.tasks.now self.new watch.new }
+        ensures watched { Watched (plan_of (P.Policy.keyed policy.now) (P.Policy.precedes policy.now) (entry_at watch.old.tasks.now)) watch.old.tasks.now self.new watch.new }
     {
-        watch.active = self.tick(policy, watch);
+        self.tick(policy, watch);
         if self.instant < watch.calm {
             return 0;
         }
-        let missed = watch.missed_set(&self.left);
-        watch.open(&mut self.left);
-        watch.renew();
+        let missed = watch.arrive(&mut self.left);
         watch.active = active_set(watch.tasks, &self.left);
+        watch.lasts = false;
         missed
     }
 
@@ -89,9 +102,11 @@ impl Trial {
         let mut watch = Watch {
             tasks,
             released: latest_releases(tasks, self.instant),
+            events: [self.instant + 1; 32],
             since: self.instant,
             calm: self.instant + 1,
             active: active_set(tasks, &self.left),
+            lasts: false,
         };
         'slots: for _ in 0..n {
             if self.instant >= LAST_INSTANT {

@@ -1,5 +1,6 @@
-use Rattle.std.proofs.Common.{◌≡◌, ℕ, ◌+◌, List, ◌∷◌, Option, sym, refl, ◌∙◌, subst, inl, inr, arith}
+use Rattle.std.proofs.Common.{◌≡◌, ℕ, ◌+◌, ◌<◌, replicate, get_or, List, ◌∷◌, Option, sym, refl, ◌∙◌, subst, inl, inr, arith, rules}
 use Rattle.std.proofs.lemmas.Bool.{both_ways}
+use Rattle.std.proofs.lemmas.List.{get_or-replicate}
 use Rattle.task.specs.declared.task.Task.{Task}
 use Rattle.task.specs.Tables.{entry_at}
 use Rattle.policy.specs.Members.{NextIn}
@@ -16,8 +17,27 @@ use Rattle.trial.proofs.trial.Trial.run.Goals.{then-self+else-from-self, else-fr
 pub returns-then-self-ge-LAST_INSTANT : goal.returns-then-self-ge-LAST_INSTANT
 returns-then-self-ge-LAST_INSTANT g c = (0, here, omega arith, inr (omega arith))
 
+pub invariant_of-watch : goal.invariant_of-watch
+invariant_of-watch g c =
+    let a = c.args.self.now in
+    let each : (i : ℕ) → i < 32 → get_or (replicate 32 (a.instant + 1)) i 0 ≡ a.instant + 1 = λ i h. get_or-replicate 32 i (a.instant + 1) 0 h in
+    record {
+      sized = search rules;
+      onward = omega arith;
+      latest = c.latest_releases.ensures;
+      calm_is = λ i h v p q. absurd (omega (arith, each i h));
+      soonest = λ i h. omega (arith, each i h);
+    }
+
 pub slots-init : goal.slots-init
-slots-init g c = (here, record { tasks_are = refl; begun = omega arith; not_over = omega arith; active_is = c.active_set.ensures }, refl)
+slots-init g c = (here, record { tasks_are = refl; begun = omega arith; not_over = omega arith; active_is = c.active_set.ensures; runs_on = λ h. absurd (cc) }, refl)
+
+pub pass-missed-requires-clause-watched : goal.pass-missed-requires-clause-watched
+pass-missed-requires-clause-watched g c =
+    let p = g.P.Policy in
+    let s = c.slots.invariant.1 in
+    let W : List (Option Task) → Type 0 = λ ts. Watched (plan_of (p.keyed c.args.policy.now) (p.precedes c.args.policy.now) (entry_at ts)) ts c.slots.self c.slots.watch in
+    subst W (sym s.tasks_are) s
 
 pub loop-i-init : goal.loop-i-init
 loop-i-init g c =
@@ -35,8 +55,8 @@ slots-preserved g c =
     let s : Passes plan a missed b = subst S c.slots.invariant.1.tasks_are c.pass-missed.ensures.passes in
     let N : List ℕ → Type 0 = λ r. NextIn missed 0 (first r) in
     let none : NonePasses (missing plan a) = none_passes (missing plan a) missed s.missed_is (subst N c.in-None.ensures.steps.0 c.loop-i.invariant.3) in
-    let C : Trial → Type 0 = λ d. Undecided plan c.args.self.now (c.slots.counter + 1) d × Watched c.args.tasks.now d c.pass-missed.new.watch in
-    let W : List (Option Task) → Type 0 = λ ts. Watched ts b c.pass-missed.new.watch in
+    let C : Trial → Type 0 = λ d. Undecided plan c.args.self.now (c.slots.counter + 1) d × Watched plan c.args.tasks.now d c.pass-missed.new.watch in
+    let W : List (Option Task) → Type 0 = λ ts. Watched (plan_of (p.keyed c.args.policy.now) (p.precedes c.args.policy.now) (entry_at ts)) ts b c.pass-missed.new.watch in
     let still : W c.args.tasks.now = subst W c.slots.invariant.1.tasks_are c.pass-missed.ensures.watched in
     let goes : C c.if-self.self =
     elim c.if-self.branch [
@@ -44,7 +64,7 @@ slots-preserved g c =
           let d = w.keep.new.self in
           let k = w.keep.ensures in
           let u = on c.slots.invariant.0 (moved_on plan a missed b s d k) (none, inl (passed_now plan a missed b s d k w.if-self.true (λ l q. elim w.else-from-self.branch [ else-from-self-via-then-from-self+else-agrees v ↦ both_ways _ v.if-agrees.false (v.agrees.ensures.1 q) | else-from-self-via-else-from-self v ↦ omega (arith, v.if-from-self.false) ]))) in
-          subst C (sym w.self-is) (u, watched_still c.args.tasks.now b d c.pass-missed.new.watch still k)
+          subst C (sym w.self-is) (u, watched_still plan c.args.tasks.now b d c.pass-missed.new.watch still k)
       | else-self w ↦ subst C (sym w.self-is) (on c.slots.invariant.0 s.moved (none, inr (between_now plan a missed b s w.if-self.false)), still)
     ] in
     (goes.0, goes.1, c.loop-i.invariant.4)

@@ -11,8 +11,9 @@ use Rattle.trial.proofs.trial.Trial.run.Given as goal
 abbrev pub invariant-slots : goal.invariant-slots
 invariant-slots g l =
     let p = g.P.Policy in
-    Undecided (plan_of (p.keyed l.policy) (p.precedes l.policy) (entry_at l.tasks)) l.initial.self l.counter l.self
-    × Watched l.tasks l.self l.watch
+    let plan = plan_of (p.keyed l.policy) (p.precedes l.policy) (entry_at l.tasks) in
+    Undecided plan l.initial.self l.counter l.self
+    × Watched plan l.tasks l.self l.watch
     × (l.outcome ≡ Ran)
 
 abbrev pub invariant-loop-i : goal.invariant-loop-i

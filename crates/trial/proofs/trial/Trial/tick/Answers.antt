@@ -1,38 +1,82 @@
-use Rattle.std.proofs.Common.{refl}
+use Rattle.std.proofs.Common.{◌≡◌, ℕ, ◌+◌, ◌<◌, true, false, List, Option, sym, refl, ap, ◌∙◌, subst}
+use Rattle.std.proofs.lemmas.Bool.{both_ways}
+use Rattle.schedule.specs.Schedule.{has_cpu}
+use Rattle.task.specs.declared.task.Task.{Task}
 use Rattle.task.specs.Tables.{entry_at}
-use Rattle.policy.proofs.Since.{asking_at, known_at}
-use Rattle.trial.proofs.Watching.{latest_before}
-use Rattle.trial.proofs.Slotwise.{worked_is, still_is}
+use Rattle.policy.specs.Dispatch.{is_active}
+use Rattle.policy.specs.Plans.{plan_of}
+use Rattle.policy.specs.Sets.{left_of, word_of}
+use Rattle.policy.proofs.Words.{word_has, word_same}
+use Rattle.trial.specs.declared.trial.Trial.{Trial}
+use Rattle.trial.specs.declared.watch.Watch.{Watch}
+use Rattle.trial.specs.Slots.{worked, Chosen, SameInstants}
+use Rattle.trial.proofs.Lasting.{same_active}
+use Rattle.trial.proofs.Slotwise.{worked_is}
 use Rattle.trial.proofs.trial.Trial.tick.Goals as goal
-
-pub invariant_of-slot : goal.invariant_of-slot
-invariant_of-slot g c =
-    let a = c.args.self.now in
-    let w = c.args.watch.now in
-    let s = c.requires.watched in
-    record { asking = asking_at (entry_at w.tasks.now) a.left w.active w.released a.instant s.active_is (λ i h. latest_before w i a.instant h s.begun s.not_over) }
+use Rattle.trial.proofs.trial.Trial.tick.Goals.{then-not-watch, else-not-watch, then-work, else-work}
 
 pub returns : goal.returns
 returns g c =
     let p = g.P.Policy in
     let key = p.keyed c.args.policy.now in
     let le = p.precedes c.args.policy.now in
-    let at = entry_at c.args.watch.now.tasks.now in
     let a = c.args.self.now in
-    let w = c.args.watch.now in
+    let v = c.args.watch.now in
+    let at = entry_at v.tasks.now in
+    let plan = plan_of key le at in
     let s = c.requires.watched in
-    let ran = c.running-ran.ensures a.left (known_at at a.left w.active w.released a.instant s.active_is (λ i h. latest_before w i a.instant h s.begun s.not_over)) in
-    let end = c.work-still.new.left in
+    let b = c.if-not-watch.self in
+    let w = c.if-not-watch.watch in
+    let end = c.work.new.left in
+    let ch : Chosen plan a v b w =
+    elim c.if-not-watch.branch [
+      | then-not-watch x ↦ subst (λ (y : Trial). Chosen plan a v y w) (sym x.self-is) (subst (Chosen plan a v x.choose.new.self) (sym x.watch-is) x.choose.ensures)
+      | else-not-watch x ↦
+          let as_was : Chosen plan a v a v =
+          record {
+            trial = refl;
+            watch = record { instants = record { tasks_kept = refl; released_kept = refl; since_kept = refl; calm_kept = refl }; active_kept = refl };
+            ran_is = (s.runs_on x.if-not-watch.false).ran_is;
+            lasts = λ h. (s.runs_on h).lasts;
+          } in
+          subst (λ (y : Trial). Chosen plan a v y w) (sym x.self-is) (subst (Chosen plan a v a) (sym x.watch-is) as_was)
+    ] in
+    let left_is : b.left ≡ a.left = ap (λ (x : Trial). x.left) ch.trial in
+    let lost : (i : ℕ) → i < 32 → left_of end i ≡ worked b.ran a.left i = λ i h. c.work.ensures.left i h ∙ ap (λ xs. worked b.ran xs i) left_is in
+    let slot_is = worked_is key le at a b.ran end ch.ran_is lost in
+    let kept = ch.watch.instants in
+    let some : c.work.result ≡ false → (i : ℕ) → i < 32 → has_cpu plan a.cpus a.instant (left_of a.left) i ≡ true → 0 < left_of end i =
+    λ none i h on. c.work.ensures.none_finished none i h (word_has (has_cpu plan a.cpus a.instant (left_of a.left)) b.ran i ch.ran_is h ∙ on) in
+    let A : List (Option Task) → ℕ → Type 0 = λ ts n. n ≡ word_of (is_active (entry_at ts) end) 32 in
     record {
       ticked =
           record {
-            cpus_kept = refl;
-            start_kept = refl;
-            span_kept = refl;
-            later = refl;
-            ran_is = ran;
-            left_is = worked_is key le at a w.active c.running-ran.result end s.active_is ran c.work-still.ensures.left;
-            boundaries = record { next_kept = refl; last_kept = refl; saved_kept = refl };
+            cpus_kept = ap (λ (x : Trial). x.cpus) ch.trial;
+            start_kept = ap (λ (x : Trial). x.start) ch.trial;
+            span_kept = ap (λ (x : Trial). x.span) ch.trial;
+            later = ap (λ (x : Trial). x.instant + 1) ch.trial;
+            ran_is = ch.ran_is;
+            left_is = slot_is;
+            boundaries = record { next_kept = ap (λ (x : Trial). x.next) ch.trial; last_kept = ap (λ (x : Trial). x.last) ch.trial; saved_kept = ap (λ (x : Trial). x.saved) ch.trial };
           };
-      still = still_is key le at a w.active c.running-ran.result end s.active_is ran c.work-still.ensures.left c.work-still.result c.work-still.ensures.still;
+      watch =
+          elim c.if-work.branch [
+            | then-work y ↦ subst (SameInstants v) (sym y.watch-is) (record { tasks_kept = kept.tasks_kept; released_kept = kept.released_kept; since_kept = kept.since_kept; calm_kept = kept.calm_kept })
+            | else-work y ↦ subst (SameInstants v) (sym y.watch-is) kept
+          ];
+      active =
+          elim c.if-work.branch [
+            | then-work y ↦ ap (λ (x : Watch). x.active) y.watch-is ∙ subst (λ ts. A ts y.active_set-watch.result) kept.tasks_kept y.active_set-watch.ensures
+            | else-work y ↦
+                ap (λ (x : Watch). x.active) y.watch-is
+                ∙ (ch.watch.active_kept
+                ∙ (s.active_is
+                ∙ word_same (is_active at a.left) (is_active at end) 32 (λ i h. sym (same_active key le v.tasks.now a.left end a.cpus a.instant slot_is (some y.if-work.false) i h))))
+          ];
+      lasts =
+          λ h.
+          elim c.if-work.branch [
+            | then-work y ↦ absurd (both_ways c.if-work.watch.lasts (ap (λ (x : Watch). x.lasts) y.watch-is) h)
+            | else-work y ↦ record { lasts = ch.lasts (sym (ap (λ (x : Watch). x.lasts) y.watch-is) ∙ h); some_left = some y.if-work.false }
+          ];
     }

@@ -1,0 +1,26 @@
+use Rattle.std.proofs.Common.{refl}
+use Rattle.task.specs.Tables.{entry_at}
+use Rattle.policy.proofs.Since.{asking_at, known_at}
+use Rattle.trial.proofs.Lasting.{lasts_of}
+use Rattle.trial.proofs.Watching.{latest_before}
+use Rattle.trial.proofs.trial.Trial.choose.Goals as goal
+
+pub invariant_of-slot : goal.invariant_of-slot
+invariant_of-slot g c =
+    let a = c.args.self.now in
+    let w = c.args.watch.now in
+    let s = c.requires in
+    record { asking = asking_at (entry_at w.tasks.now) a.left w.active w.released a.instant s.active_is (λ i h. latest_before w i a.instant h s.begun s.not_over) }
+
+pub returns : goal.returns
+returns g c =
+    let p = g.P.Policy in
+    let a = c.args.self.now in
+    let w = c.args.watch.now in
+    let s = c.requires in
+    record {
+      trial = refl;
+      watch = record { instants = record { tasks_kept = refl; released_kept = refl; since_kept = refl; calm_kept = refl }; active_kept = refl };
+      ran_is = c.running-self.ensures a.left (known_at (entry_at w.tasks.now) a.left w.active w.released a.instant s.active_is (λ i h. latest_before w i a.instant h s.begun s.not_over));
+      lasts = λ h. lasts_of (p.keyed c.args.policy.now) (p.precedes c.args.policy.now) w.tasks.now a.left w.active w.released a.cpus a.instant s.active_is (λ i l. latest_before w i a.instant l s.begun s.not_over) (c.lasts-watch.ensures h);
+    }
