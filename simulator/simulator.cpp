@@ -1,4 +1,4 @@
-// A plain slot-by-slot simulator of periodic tasks on identical CPUs.
+// A slot-by-slot simulator of periodic tasks on identical CPUs.
 //
 // It reads a timing sheet, follows the schedule one slot at a time under four policies, and prints a
 // line for each: the same lines that the program strapverdict prints. Or it reads a script, a list of
@@ -289,7 +289,8 @@ public:
     // The numbers of the tasks whose jobs ran in the last slot; none before the first.
     std::vector<std::uint64_t> ran() const {
         std::vector<std::uint64_t> numbers;
-        for (const Job& job : jobs_) numbers.push_back(tasks_[job.task].number);
+        if (now_ > 0)
+            for (unsigned k = 0; k < running_; ++k) numbers.push_back(tasks_[runs_[k]].number);
         return numbers;
     }
 
@@ -300,26 +301,34 @@ public:
 
 private:
     void makeSlot() {
-        // Rule 3: of the active jobs, those run before which fewer than `cpus_` others stand.
-        jobs_.clear();
+        if (!chosen_) choose();
+        for (unsigned k = 0; k < running_; ++k)
+            if (--left_[runs_[k]] == 0) chosen_ = false;
+        ++now_;
+        if (now_ == nextEvent_) arrive();
+    }
+
+    // Rule 3: of the active jobs, those run before which fewer than `cpus_` others stand. They are chosen only where a job was
+    // released, finished or came to its deadline: in between all jobs grow older alike, so that their order stays.
+    void choose() {
+        unsigned active = 0;
         for (unsigned i = 0; i < count_; ++i)
             if (left_[i] > 0)
-                jobs_.push_back({i, group_[i], byRank_ ? tasks_[i].rank : tasks_[i].deadline - age_[i]});
-        if (jobs_.size() > cpus_) {
-            std::partial_sort(jobs_.begin(), jobs_.begin() + cpus_, jobs_.end(), standsBefore);
-            jobs_.resize(cpus_);
+                jobs_[active++] = {i, group_[i], byRank_ ? tasks_[i].rank : lastRelease_[i] + tasks_[i].deadline - now_};
+        if (active > cpus_) {
+            std::partial_sort(jobs_.begin(), jobs_.begin() + cpus_, jobs_.begin() + active, standsBefore);
+            active = cpus_;
         }
-        for (const Job& job : jobs_) --left_[job.task];
-        for (unsigned i = 0; i < count_; ++i) ++age_[i];
-        ++now_;
-        arrive();
+        running_ = active;
+        for (unsigned k = 0; k < active; ++k) runs_[k] = jobs_[k].task;
+        chosen_ = true;
     }
 
     // What happens at an instant, before its slot.
     void arrive() {
         // Rule 1: a job that is at its deadline and has something left misses it.
         for (unsigned i = 0; i < count_; ++i)
-            if (left_[i] > 0 && age_[i] == tasks_[i].deadline) {
+            if (left_[i] > 0 && lastRelease_[i] + tasks_[i].deadline == now_) {
                 decision_ = Verdict{Verdict::Kind::Missed, tasks_[i].number, now_};
                 return;
             }
@@ -328,8 +337,9 @@ private:
         for (unsigned i = 0; i < count_; ++i)
             if (nextRelease_[i] == now_) {
                 left_[i] = tasks_[i].runtime;
-                age_[i] = 0;
+                lastRelease_[i] = now_;
                 nextRelease_[i] = now_ + tasks_[i].period;
+                chosen_ = false;
             }
 
         // At a boundary the configuration is held against the one before.
@@ -339,6 +349,13 @@ private:
             someKept_ = true;
             boundary_ += P_;
         }
+
+        // The next instant at which anything happens but a job's end.
+        nextEvent_ = boundary_;
+        for (unsigned i = 0; i < count_; ++i) {
+            nextEvent_ = std::min(nextEvent_, nextRelease_[i]);
+            if (left_[i] > 0) nextEvent_ = std::min(nextEvent_, lastRelease_[i] + tasks_[i].deadline);
+        }
     }
 
     std::vector<Task> tasks_;
@@ -347,15 +364,19 @@ private:
     bool byRank_;
     Instant P_;
 
-    // Of each task: its group, what its job has left to run, how old that job is, and when the next is
-    // released. One job of a task is enough, since no deadline is beyond the period.
+    // Of each task: its group, what its job has left to run, when that job was released, and when the next
+    // is. One job of a task is enough, since no deadline is beyond the period.
     std::array<unsigned, kNumbers> group_{};
     std::array<std::uint64_t, kNumbers> left_{};
-    std::array<std::uint64_t, kNumbers> age_{};
+    std::array<Instant, kNumbers> lastRelease_{};
     std::array<Instant, kNumbers> nextRelease_{};
 
     Instant now_ = 0;
-    std::vector<Job> jobs_;                       // those that ran in the last slot
+    Instant nextEvent_ = 0;                       // of a release, a deadline of an active job, a boundary
+    std::array<Job, kNumbers> jobs_{};            // the active ones, while those that run are chosen
+    std::array<unsigned, kNumbers> runs_{};       // the tasks of the jobs that run, `running_` of them
+    unsigned running_ = 0;
+    bool chosen_ = false;                         // whether they run in the next slot
     Instant boundary_ = 0;                        // the next boundary, at first the largest offset
     std::array<std::uint64_t, kNumbers> kept_{};  // the configuration at the boundary before
     bool someKept_ = false;
