@@ -5,13 +5,14 @@ use Rattle.std.proofs.lemmas.Bool.{le-ltb}
 use Rattle.task.specs.declared.entry.Entry.{Entry}
 use Rattle.task.specs.Rules.{entry_refusal, with_entry, no_tasks}
 use Rattle.task.specs.Tables.{InBounds, Obey, filled, table_of}
+use Rattle.task.specs.Theorems.{HoldsJust}
 use Rattle.task.proofs.Obeying.{never, from_inside, Taken, taken}
 use Rattle.task.proofs.Holding.{holds_just_these}
 use Rattle.sheet.specs.declared.fault.LoadFault.{LoadFault}
 use Rattle.sheet.specs.Format.{cp, tk, en, front, SheetOf}
 use Rattle.sheet.specs.Faults.{fault_at, refused_at}
 use Rattle.sheet.specs.Decoding.{Tells, Breaks, Decodes}
-use Rattle.sheet.specs.Theorems.{OneAnswer, HoldsJust, DecodesExactly}
+use Rattle.sheet.specs.Theorems.{OneAnswer, DecodesExactly}
 use Rattle.sheet.proofs.Codes.{body, read_again, same_entry}
 use Rattle.sheet.proofs.Records.{judged_in}
 
@@ -126,7 +127,7 @@ pub sheet_decodes : (bytes : List ℕ) (cpus : ℕ) (es : List Entry) → SheetO
 sheet_decodes bytes cpus es s = record { told = es; sheet = s; holds = refl }
 
 holds_at : (es : List Entry) (places : List (Option Entry)) → Obey es → places ≡ table_of es → HoldsJust es places
-holds_at es places o q = subst (HoldsJust es) (sym q) (λ e. holds_just_these es e o)
+holds_at es places o q = subst (HoldsJust es) (sym q) (holds_just_these es o)
 
 pub decodes_exactly : DecodesExactly
 decodes_exactly bytes cpus = (

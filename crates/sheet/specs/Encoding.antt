@@ -17,7 +17,8 @@ listed (Some e ∷ places) = e ∷ listed places
 abbrev pub sheet_of : ℕ → List (Option Entry) → List ℕ
 sheet_of cpus places = front cpus (listed places) ++ en
 
--- why a table is not written, checked in this order: the number of CPUs is not from 1 to 8, or the buffer has no room for the longest sheet, of 709 bytes
+-- why a table is not written, checked in this order: the number of CPUs is not from 1 to 8, or the buffer has no room for the
+-- longest sheet, of 709 bytes
 abbrev pub save_refusal : (cpus room : ℕ) → Option Refusal
 save_refusal cpus room = cond (outside cpus 8) (Some CpusOutOfRange) (cond (nat_lt room 709) (Some BufferTooShort) None)
 

@@ -1,8 +1,9 @@
 -- What holds of all sheets.
-use Rattle.std.specs.Prelude.{◌≡◌, ℕ, ◌≤◌, List, take, Some, None, Ok, Option, slice_index_or}
+use Rattle.std.specs.Prelude.{◌≡◌, ℕ, ◌≤◌, List, take, Ok, Option}
 use Rattle.task.specs.declared.entry.Entry.{Entry}
 use Rattle.task.specs.declared.table.Table.{Table}
-use Rattle.task.specs.Tables.{entries, table_of, In}
+use Rattle.task.specs.Tables.{entries, table_of}
+use Rattle.task.specs.Theorems.{HoldsJust}
 use Rattle.sheet.specs.Format.{SheetOf}
 use Rattle.sheet.specs.Decoding.{Answer, Decodes}
 use Rattle.sheet.specs.Encoding.{listed, sheet_of}
@@ -11,14 +12,8 @@ use Rattle.sheet.specs.Encoding.{listed, sheet_of}
 abbrev pub OneAnswer : Type 0
 OneAnswer = (bytes : List ℕ) (a b : Answer) → Decodes bytes a → Decodes bytes b → a ≡ b
 
--- the places hold each of the entries in the place of its number, and no other
-abbrev pub HoldsJust : List Entry → List (Option Entry) → Type 0
-HoldsJust es places =
-    (e : Entry)
-    → (In e es → slice_index_or places e.number None ≡ Some e)
-    × ((i : ℕ) → slice_index_or places i None ≡ Some e → In e es)
-
--- bytes that decode to CPUs and places are a sheet, whose entries the places hold, and no other; and a sheet decodes to its CPUs and the table of its entries, and to nothing else
+-- bytes that decode to CPUs and places are a sheet, whose entries the places hold, and no other; and a sheet decodes to its CPUs
+-- and the table of its entries, and to nothing else
 abbrev pub DecodesExactly : Type 0
 DecodesExactly =
     (bytes : List ℕ) (cpus : ℕ)

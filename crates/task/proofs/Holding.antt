@@ -2,12 +2,13 @@
 use Rattle.std.proofs.Common.{◌≡◌, ℕ, suc, ◌<◌, ◌≤◌, false, ◌≢◌, ◌⊎◌, List, [], ◌∷◌, length, get_or, set, Some, None, Option, sym, refl, ap, ◌∙◌, subst, inl, inr, ⊎_elim, arith, length-set, get_or-set_other, get_or-set_same}
 use Rattle.std.specs.Str.{bytes_eq}
 use Rattle.std.proofs.lemmas.List.{get_or-replicate, get_or_past, length-map, map-set}
-use Rattle.std.proofs.lemmas.Bool.{cases_eq, cases_lt, or_from}
+use Rattle.std.proofs.lemmas.Bool.{both_ways, cases_eq, cases_lt, or_from}
 use Rattle.task.specs.declared.entry.Entry.{Entry}
 use Rattle.task.specs.declared.task.Task.{Task}
 use Rattle.task.specs.Rules.{bears, entry_refusal, no_tasks, with_entry}
-use Rattle.task.specs.Tables.{entry_of, entries, Obey, Numbered, SameName, Distinct, filled, In, HoldsJustThese, TakesJustLawfulEntries}
-use Rattle.task.proofs.Obeying.{never, clash, fits_from, bounds_from, unrefused, differ, bears_has, filled_other}
+use Rattle.task.specs.Tables.{entry_of, entries, Obey, Numbered, SameName, Distinct, filled, In}
+use Rattle.task.specs.Theorems.{HoldsJustThese, TakesJustLawfulEntries}
+use Rattle.task.proofs.Obeying.{never, bounds_from, unrefused, differ, bears_has, filled_other}
 
 none_there : (n : ℕ) → get_or no_tasks n None ≡ None
 none_there n = ⊎_elim (λ h. get_or-replicate 32 n None None h) (λ h. get_or_past no_tasks n None h) (cases_lt n 32)
@@ -40,7 +41,7 @@ numbered_more s e l k w i x h = ⊎_elim
     (in_place s e i x (omega arith) h)
 
 same_name : {A : Type 0} (s : List (Option Entry)) (e : Entry) (n : ℕ) (b : Entry) → bears s e.name ≡ false → get_or s n None ≡ Some b → b.name ≡ e.name → A
-same_name s e n b k h q = clash (bears s e.name) (bears_has s n b e.name h q) k
+same_name s e n b k h q = absurd (both_ways (bears s e.name) k (bears_has s n b e.name h q))
 
 pub same_at : (o p : Option Entry) (a b : Entry) → o ≡ Some a → p ≡ Some b → a.name ≡ b.name → SameName o p
 same_at o p a b h k q = rw (h, k) q
@@ -67,11 +68,11 @@ pub table_more : (ss : List (Option Task)) (t : Task) (e : Entry) → length ss 
     → Numbered (entries ss) → Distinct (entries ss)
     → Numbered (entries (set ss e.number (Some t))) × Distinct (entries (set ss e.number (Some t)))
 table_more ss t e l q h a b =
-    let p = fits_from (entries ss) e h in
+    let p = bounds_from (entries ss) e (ap (λ x. length x.name) (sym q) ∙ t.eight) (subst (λ x. x.rank ≤ 255) q t.ranked) h in
     let z : length (entries ss) ≡ 32 = length-map ss entry_of ∙ l in
     let s : with_entry (entries ss) e ≡ entries (set ss e.number (Some t)) = sym (map-set entry_of ss e.number (Some t) ∙ ap (λ x. set (entries ss) e.number (Some x)) q) in (
-      subst Numbered s (numbered_more (entries ss) e z p.number a),
-      subst Distinct s (distinct_more (entries ss) e z p.number p.clear.new b),
+      subst Numbered s (numbered_more (entries ss) e z p.0.number a),
+      subst Distinct s (distinct_more (entries ss) e z p.0.number p.1.new b),
     )
 
 held : (es : List Entry) (s : List (Option Entry)) (e : Entry) → length s ≡ 32 → Obey es → In e es → get_or (filled s es) e.number None ≡ Some e
@@ -94,7 +95,7 @@ in_filled (x ∷ xs) s i e l o h =
     (in_filled xs (with_entry s x) i e (length-set s x.number (Some x) ∙ l) o.2 h)
 
 pub holds_just_these : HoldsJustThese
-holds_just_these es e o = (
+holds_just_these es o e = (
   held es no_tasks e refl o,
   λ i h. ⊎_elim (λ m. m) (λ s. never (get_or no_tasks i None) s (none_there i)) (in_filled es no_tasks i e refl o h),
 )

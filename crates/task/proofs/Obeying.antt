@@ -1,31 +1,28 @@
 -- What a table refuses, and the rules that the entries it takes obey.
-use Rattle.std.proofs.Common.{◌≡◌, ℕ, zero, suc, ◌+◌, ◌<◌, ◌≤◌, Bool, true, false, cond, eqb, ltb, ◌≢◌, List, [], ◌∷◌, ◌++◌, length, get_or, set, is_some, Some, None, Option, sym, refl, ap, ◌∙◌, ⊎_elim, arith, length-set, get_or-set_other, get_or-set_same}
+use Rattle.std.proofs.Common.{◌≡◌, ℕ, zero, suc, ◌+◌, ◌<◌, ◌≤◌, Bool, true, false, cond, eqb, ltb, ◌≢◌, List, [], ◌∷◌, ◌++◌, length, get_or, set, is_some, Some, None, Option, sym, refl, ap, ◌∙◌, arith, length-set, get_or-set_other, get_or-set_same}
 use Rattle.std.specs.Str.{bytes_eq}
 use Rattle.std.proofs.lemmas.List.{get_or-replicate}
-use Rattle.std.proofs.lemmas.Bool.{or_parts, or_from, or_left, or_right, cases_Bool, ltb-false, eqb-false, le-ltb, ne_eqb, not-false}
+use Rattle.std.proofs.lemmas.Bool.{both_ways, false_from_ne_true, or_parts, or_from, or_left, or_right, ltb-false, eqb-false, le-ltb, ne_eqb, not-false}
 use Rattle.std.proofs.lemmas.Slice.Eq.{bytes_eq-Decides}
 use Rattle.task.specs.declared.entry.Entry.{Entry}
 use Rattle.task.specs.declared.refusal.Refusal.TheVariants.{CpusOutOfRange}
 use Rattle.task.specs.Names.{is_name}
-use Rattle.task.specs.Rules.{outside, bears, cpus_refusal, times_refusal, entry_refusal, no_tasks, with_entry}
+use Rattle.task.specs.Rules.{outside, bears, cpus_refusal, entry_refusal, no_tasks, with_entry}
 use Rattle.task.specs.Tables.{InBounds, Apart, Obey, filled, table_of}
 
 pub never : {X : Type 0} {x : X} {A : Type 0} (o : Option X) → o ≡ Some x → o ≡ None → A
 never o p q = absurd (cc)
 
-pub clash : {A : Type 0} (b : Bool) → b ≡ true → b ≡ false → A
-clash b p q = absurd (cc)
-
 pub cond_none : {X : Type 0} (b : Bool) (x : X) (o : Option X) → cond b (Some x) o ≡ None → (b ≡ false) × (o ≡ None)
 cond_none true x o e = never (Some x) refl e
 cond_none false x o e = (refl, e)
 
-none_of : {X : Type 0} (o : Option X) → is_some o ≡ false → o ≡ None
+pub none_of : {X : Type 0} (o : Option X) → is_some o ≡ false → o ≡ None
 none_of None e = refl
-none_of (Some x) e = clash true refl e
+none_of (Some x) e = absurd (both_ways true e refl)
 
 pub differ : (xs ys : List ℕ) → (xs ≡ ys → ⊥) → bytes_eq xs ys ≡ false
-differ xs ys n = ⊎_elim (λ t. absurd (n ((bytes_eq-Decides xs ys).0 t))) (λ f. f) (cases_Bool (bytes_eq xs ys))
+differ xs ys n = false_from_ne_true (bytes_eq xs ys) (λ t. n ((bytes_eq-Decides xs ys).0 t))
 
 same : (xs ys : List ℕ) → xs ≡ ys → bytes_eq xs ys ≡ true
 same xs ys e = (bytes_eq-Decides xs ys).1 e
@@ -48,69 +45,33 @@ from_inside n limit a b =
 pub cpus_inside : (cpus : ℕ) → cpus_refusal cpus ≡ None → (1 ≤ cpus) × (cpus ≤ 8)
 cpus_inside cpus h = inside cpus 8 (cond_none (outside cpus 8) CpusOutOfRange None h).0
 
--- the times of an entry that has nothing wrong with them
-pub record Timely (e : Entry) : Type 0 where
-  pub offset : e.offset ≤ 1000000
-  pub runs : 1 ≤ e.runtime
-  pub runtime : e.runtime ≤ e.deadline
-  pub deadline : e.deadline ≤ e.period
-  pub period : e.period ≤ 60000
-
-pub timely_from : (e : Entry) → times_refusal e ≡ None → Timely e
-timely_from e h =
-    let p = cond_none _ _ _ h in
-    let d = cond_none _ _ _ p.1 in
-    let k = cond_none _ _ _ d.1 in
-    let o = cond_none _ _ _ k.1 in
-    let pi = inside e.period 60000 p.0 in
-    let di = inside e.deadline e.period d.0 in
-    let ki = inside e.runtime e.deadline k.0 in
-    record {
-      offset = ltb-false 1000000 e.offset o.0;
-      runs = ki.0;
-      runtime = ki.1;
-      deadline = di.1;
-      period = pi.1;
-    }
-
--- what an entry keeps that a table does not refuse
-pub record Fits (s : List (Option Entry)) (e : Entry) : Type 0 where
-  pub number : e.number ≤ 31
-  pub named : is_name e.name ≡ true
-  pub clear : Clear s e
-  pub times : Timely e
-
-pub fits_from : (s : List (Option Entry)) (e : Entry) → entry_refusal s e ≡ None → Fits s e
-fits_from s e h =
-    let a = cond_none _ _ _ h in
-    let b = cond_none _ _ _ a.1 in
-    let n = cond_none _ _ _ b.1 in
-    let m = cond_none _ _ _ n.1 in
-    record {
-      number = ltb-false 31 e.number a.0;
-      named = not-false (is_name e.name) n.0;
-      clear = record { free = none_of (get_or s e.number None) b.0; new = m.0 };
-      times = timely_from e m.1;
-    }
-
+-- an entry that a table does not refuse is in bounds, and its number and name are free
 pub bounds_from : (s : List (Option Entry)) (e : Entry) → length e.name ≡ 8 → e.rank ≤ 255 → entry_refusal s e ≡ None → InBounds e × Clear s e
 bounds_from s e l r h =
-    let f = fits_from s e h in
-    let t = f.times in (
+    let number = cond_none _ _ _ h in
+    let taken = cond_none _ _ _ number.1 in
+    let named = cond_none _ _ _ taken.1 in
+    let bears = cond_none _ _ _ named.1 in
+    let period = cond_none _ _ _ bears.1 in
+    let deadline = cond_none _ _ _ period.1 in
+    let runtime = cond_none _ _ _ deadline.1 in
+    let offset = cond_none _ _ _ runtime.1 in
+    let runs = inside e.runtime e.deadline runtime.0 in (
       record {
-        number = f.number;
+        number = ltb-false 31 e.number number.0;
         eight = l;
-        named = f.named;
+        named = not-false (is_name e.name) named.0;
         rank = r;
-        offset = t.offset;
-        runs = t.runs;
-        runtime = t.runtime;
-        deadline = t.deadline;
-        period = t.period;
+        offset = ltb-false 1000000 e.offset offset.0;
+        runs = runs.0;
+        runtime = runs.1;
+        deadline = (inside e.deadline e.period deadline.0).1;
+        period = (inside e.period 60000 period.0).1;
       },
-      f.clear,
+      record { free = none_of (get_or s e.number None) taken.0; new = bears.0 },
     )
 
+-- .. and a table refuses no such entry
 pub unrefused : (s : List (Option Entry)) (e : Entry) → InBounds e → Clear s e → entry_refusal s e ≡ None
 unrefused s e w k =
     rw (
@@ -163,7 +124,7 @@ apart_from_clear (x ∷ xs) s e l o k =
     let f : get_or (filled (with_entry s x) xs) x.number None ≡ Some x =
     filled_other xs (with_entry s x) x o.1 ∙ get_or-set_same s x.number (Some x) None i in (
       (λ q. never (get_or (filled (with_entry s x) xs) x.number None) f (ap (λ j. get_or (filled (with_entry s x) xs) j None) (sym q) ∙ k.free)),
-      (λ q. clash (bears (filled (with_entry s x) xs) e.name) (bears_has (filled (with_entry s x) xs) x.number x e.name f (sym q)) k.new),
+      (λ q. both_ways (bears (filled (with_entry s x) xs) e.name) k.new (bears_has (filled (with_entry s x) xs) x.number x e.name f (sym q))),
       apart_from_clear xs (with_entry s x) e (length-set s x.number (Some x) ∙ l) o.2 k,
     )
 

@@ -1,3 +1,4 @@
+-- Tasks and their tables, in the order in which to read them.
 pub mod Names
 pub mod Refusals
 pub mod Rules

@@ -1,4 +1,4 @@
--- The number of each refusal.
+-- The number of each refusal; 3 to 7 are the numbers of what can be wrong with the form of a sheet.
 use Rattle.std.specs.Prelude.{ℕ}
 use Rattle.task.specs.declared.refusal.Refusal.{Refusal}
 use Rattle.task.specs.declared.refusal.Refusal.TheVariants.{AlreadyStarted, NotStarted, CpusOutOfRange, NumberTooLarge, NumberTaken, NoSuchTask, BadName, NameTaken, PeriodOutOfRange, DeadlineOutOfRange, RuntimeOutOfRange, OffsetTooLarge, NoTasks, HyperperiodTooLong, BadThreshold, BufferTooShort}

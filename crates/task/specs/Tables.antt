@@ -69,26 +69,6 @@ abbrev pub In : Entry → List Entry → Type 0
 In e [] = ⊥
 In e (x ∷ xs) = (e ≡ x) ⊎ In e xs
 
--- the table of entries that obey the rules holds each of them in its place, and no other
-abbrev pub HoldsJustThese : Type 0
-HoldsJustThese =
-    (es : List Entry) (e : Entry) → Obey es
-    → (In e es → slice_index_or (table_of es) e.number None ≡ Some e)
-    × ((i : ℕ) → slice_index_or (table_of es) i None ≡ Some e → In e es)
-
--- the number is free, and no task of the table bears the name
-abbrev pub Free : List (Option Entry) → Entry → Type 0
-Free places e =
-    (slice_index_or places e.number None ≡ None)
-    × ((i : ℕ) (b : Entry) → slice_index_or places i None ≡ Some b → b.name ≢ e.name)
-
--- a table takes just the entries that are in bounds and whose number and name are free
-abbrev pub TakesJustLawfulEntries : Type 0
-TakesJustLawfulEntries =
-    (places : List (Option Entry)) (e : Entry) → length e.name ≡ 8 → e.rank ≤ 255
-    → (entry_refusal places e ≡ None → InBounds e × Free places e)
-    × (InBounds e → Free places e → entry_refusal places e ≡ None)
-
 -- what admitting an entry to a table answers: the task of the entry, or the refusal
 abbrev pub Admits : List (Option Entry) → Entry → Result Task Refusal → Type 0
 Admits places e (Ok t) = (entry_refusal places e ≡ None) × (t.figures ≡ e)

@@ -4,17 +4,15 @@
 
 /// The checks of figures by themselves.
 pub mod checks;
-/// A table takes entries.
+/// A table is made, is looked at, and takes entries.
 pub mod entering;
 /// What is handed in for a task.
 pub mod entry;
-/// The numbers of the refusals.
-pub mod numbers;
-/// The refusals.
+/// The refusals and their numbers.
 pub mod refusal;
 /// The table of tasks.
 pub mod table;
-/// Tasks.
+/// A task, and what it answers of its figures.
 pub mod task;
 /// What holds of tables in general.
 pub mod theorems;

@@ -1,3 +1,6 @@
+ghost use Rattle.std.specs.Prelude.{◌≡◌};
+ghost use Rattle.task.specs.Refusals.{number_of};
+
 /// Why a call is turned down. specs/Refusals.antt gives each case its number.
 #[derive(Clone, Copy, PartialEq, Eq, Debug)]
 pub enum Refusal {
@@ -33,4 +36,13 @@ pub enum Refusal {
     BadThreshold = 20,
     /// The buffer is too short.
     BufferTooShort = 21,
+}
+
+impl Refusal {
+    /// The number that the refusal goes by.
+    pub fn number(&self) -> u8
+        ensures { result ≡ number_of self.now }
+    {
+        *self as u8
+    }
 }

@@ -1,7 +1,6 @@
-ghost use Rattle.task.specs.Tables.{HoldsJustThese, TakesJustLawfulEntries};
-ghost use Rattle.task.specs.Theorems.{WithdrawnMayReturn};
+ghost use Rattle.task.specs.Theorems.{HoldsJustThese, TakesJustLawfulEntries, WithdrawnMayReturn};
 
-/// What holds of tables in general: its contract has the theorems, and it does nothing.
+/// What holds of tables in general: its contract has the theorems.
 pub fn table_theorems()
     ensures holds { HoldsJustThese }
     ensures takes { TakesJustLawfulEntries }
