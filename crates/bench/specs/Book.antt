@@ -19,15 +19,19 @@ pub record Book : Type 0 where
 abbrev pub blank : Book
 blank = record { table = no_tasks; started = false; cpus = 0; slots = 0 }
 
+-- the book with another table
 abbrev pub with_table : Book → List (Option Entry) → Book
 with_table b table = record { table = table; started = b.started; cpus = b.cpus; slots = b.slots }
 
+-- the book when the bench is started on m CPUs ..
 abbrev pub when_started : Book → ℕ → Book
 when_started b m = record { table = b.table; started = true; cpus = m; slots = 0 }
 
+-- .. when it is given a run of n slots ..
 abbrev pub when_run : Book → ℕ → Book
 when_run b n = record { table = b.table; started = b.started; cpus = b.cpus; slots = b.slots + n }
 
+-- .. and when it is halted
 abbrev pub when_halted : Book → Book
 when_halted b = record { table = b.table; started = false; cpus = b.cpus; slots = b.slots }
 

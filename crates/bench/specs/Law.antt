@@ -27,11 +27,12 @@ module _ {K : Type 0} (keyed : Entry → ℕ → K) (le : K → K → Bool) wher
   abbrev pub plan_in : Book → Plan
   plan_in b = plan_of keyed le (placed b.table)
 
-  -- the verdict of n slots since the start
+  -- the verdict of n slots since the start ..
   abbrev pub VerdictAnswer : Book → ℕ → Result Verdict Refusal → Type 0
   VerdictAnswer b n (Ok v) = OnlyVerdict (plan_in b) b.cpus n v
   VerdictAnswer b n (Err e) = Unit {0}
 
+  -- .. and the running set with its count; a refusal tells neither
   abbrev pub SetAnswer : Book → Result (ℕ × ℕ) Refusal → Type 0
   SetAnswer b (Ok q) = SetShown (plan_in b) b.cpus b.slots q.0 q.1
   SetAnswer b (Err e) = Unit {0}

@@ -1,10 +1,10 @@
+-- The bench, its calls and their law, in the order in which to read them.
+pub mod Calls
 pub mod Modes
 pub mod Lines
 pub mod Steps
-pub mod Judged
-pub mod Calls
 pub mod Refusing
 pub mod EachCall
 pub mod Book
+pub mod Judged
 pub mod Law
-pub mod Seen

@@ -17,6 +17,7 @@ use Rattle.trial.specs.declared.trial.Outcome.{Outcome}
 use Rattle.trial.specs.declared.trial.Outcome.TheVariants.{Ran, Missed as Miss, Agreed}
 use Rattle.trial.specs.Cycles.{table_period}
 use Rattle.trial.specs.Trials.{Fresh, Runs}
+use Rattle.bench.specs.declared.bench.Bench.{Bench}
 use Rattle.bench.specs.declared.mode.Mode.{Mode}
 use Rattle.bench.specs.declared.mode.Mode.TheVariants.{Open, Running, Held, Missed}
 use Rattle.bench.specs.declared.verdict.Verdict.{Verdict}
@@ -28,6 +29,10 @@ pub record View (P : Type 0) : Type 0 where
   pub policy : P
   pub tasks : List (Option Task)
   pub mode : Mode
+
+-- the view of a bench
+abbrev pub view : {P : Type 0} → Bench P → View P
+view b = record { policy = b.policy; tasks = b.table.tasks; mode = b.mode }
 
 -- why a start is refused, checked in this order
 abbrev pub start_refusal : (started : Bool) → (ℕ → Option Entry) → ℕ → Option Refusal
@@ -94,6 +99,7 @@ module _ {P : Type 0} where
       × (u ≡ record { policy = v.policy; tasks = u.tasks; mode = Open })
   Loads v bytes (Err f) u = IsLoadFault (is_started v.mode) bytes f × (u ≡ v)
 
+  -- the bench with another mode
   abbrev pub with_mode : View P → Mode → View P
   with_mode v mode = record { policy = v.policy; tasks = v.tasks; mode = mode }
 

@@ -13,6 +13,7 @@ pub enum Fault {
     Start(Refusal),
 }
 
+/// The fault of a load stays what it is.
 impl From<LoadFault> for Fault {
     ghost from_gives = { λ e r. r ≡ Load e };
 
@@ -21,6 +22,7 @@ impl From<LoadFault> for Fault {
     }
 }
 
+/// The refusal of a start stays what it is.
 impl From<Refusal> for Fault {
     ghost from_gives = { λ e r. r ≡ Start e };
 

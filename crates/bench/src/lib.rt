@@ -8,7 +8,7 @@ pub mod bench;
 pub mod fault;
 /// The lines of verdicts and faults.
 pub mod lines;
-/// Where a bench stands.
+/// Where a bench stands, and what it tells then.
 pub mod mode;
 /// The calls that make a bench and fill its table: new, enter, withdraw, load, save.
 pub mod table_calls;

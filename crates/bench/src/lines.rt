@@ -8,7 +8,7 @@ use crate::verdict::Verdict;
 use sheet::fault::LoadFault;
 use task::refusal::Refusal;
 
-/// A buffer for a line has at least as many bytes.
+/// How many bytes a buffer for a line has at least.
 pub const LINE_LENGTH: usize = 48;
 
 impl Verdict {

@@ -1,8 +1,9 @@
 ghost use Rattle.std.specs.Prelude.{◌≡◌, true};
 ghost use Rattle.task.specs.declared.refusal.Refusal.TheVariants.{AlreadyStarted};
 ghost use Rattle.bench.specs.declared.mode.Mode.TheVariants.{Open};
-ghost use Rattle.bench.specs.Modes.{is_started};
+ghost use Rattle.bench.specs.Modes.{is_started, while_started, verdict_of, set_of};
 
+use crate::verdict::Verdict;
 use task::refusal::Refusal;
 use trial::trial::Trial;
 
@@ -27,6 +28,38 @@ impl Mode {
         match self {
             Mode::Open => Ok(()),
             _ => Err(Refusal::AlreadyStarted),
+        }
+    }
+
+    /// The verdict, unless the bench is open.
+    pub(crate) fn verdict(&self) -> Option<Verdict>
+        ensures { result ≡ while_started self.now (verdict_of self.now) }
+    {
+        match self {
+            Mode::Open => None,
+            Mode::Running(trial) => Some(Verdict::Running {
+                instant: trial.instant(),
+            }),
+            Mode::Held(_, first, second) => Some(Verdict::Holds {
+                first: *first,
+                second: *second,
+            }),
+            Mode::Missed(_, task, instant) => Some(Verdict::Missed {
+                task: *task,
+                instant: *instant,
+            }),
+        }
+    }
+
+    /// The tasks that ran in the last slot, a bit for each, unless the bench is open.
+    pub(crate) fn set(&self) -> Option<u32>
+        ensures { result ≡ while_started self.now (set_of self.now) }
+    {
+        match self {
+            Mode::Open => None,
+            Mode::Running(trial) | Mode::Held(trial, ..) | Mode::Missed(trial, ..) => {
+                Some(trial.ran())
+            }
         }
     }
 }

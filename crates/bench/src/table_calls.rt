@@ -2,10 +2,9 @@ ghost use Rattle.std.specs.Prelude.{◌≡◌, take, IfOk, Ok};
 ghost use Rattle.task.specs.Tables.{entries};
 ghost use Rattle.sheet.specs.Decoding.{Decodes};
 ghost use Rattle.bench.specs.declared.mode.Mode.TheVariants.{Open};
-ghost use Rattle.bench.specs.Calls.{entering, withdrawing, saving, WrittenAnswer};
+ghost use Rattle.bench.specs.Calls.{entering, withdrawing, saving};
 ghost use Rattle.bench.specs.EachCall.{Step, TakesSheets, LoadsBack};
-ghost use Rattle.bench.specs.Seen.{view};
-ghost use Rattle.bench.specs.Steps.{New, Loads};
+ghost use Rattle.bench.specs.Steps.{view, New, Loads};
 
 use crate::bench::Bench;
 use crate::mode::Mode;

@@ -1,12 +1,11 @@
 ghost use Rattle.std.specs.Prelude.{◌≡◌, ℕ, ◌+◌};
 ghost use Rattle.task.specs.Tables.{entry_at};
-ghost use Rattle.bench.specs.Calls.{running_for, halting, asking_verdict, asking_set, asking_line, WrittenAnswer, Log};
+ghost use Rattle.bench.specs.Calls.{running_for, halting, asking_verdict, asking_set, asking_line, Log};
 ghost use Rattle.bench.specs.EachCall.{Step};
 ghost use Rattle.bench.specs.Judged.{SinceStart, OnlyVerdict, JudgedAnswer};
 ghost use Rattle.bench.specs.Law.{Made, Lawful, Law};
-ghost use Rattle.bench.specs.Modes.{is_started, while_started, verdict_of, set_of, is_decided};
-ghost use Rattle.bench.specs.Seen.{view};
-ghost use Rattle.bench.specs.Steps.{Starts, RanFor, Lines, plan_for, Begins, decided};
+ghost use Rattle.bench.specs.Modes.{is_started, verdict_of};
+ghost use Rattle.bench.specs.Steps.{view, Starts, RanFor, Lines, plan_for, Begins, decided};
 
 use crate::bench::Bench;
 use crate::lines::LINE_LENGTH;
@@ -17,49 +16,6 @@ use task::checks::check_cpus;
 use task::refusal::Refusal;
 use trial::cycle::count;
 use trial::trial::{Outcome, Trial};
-
-impl Verdict {
-    /// Whether the verdict is not "running".
-    pub fn is_decided(&self) -> bool
-        ensures { result ≡ is_decided self.now }
-    {
-        !matches!(self, Verdict::Running { .. })
-    }
-}
-
-impl Mode {
-    /// The verdict, unless the bench is open.
-    pub(crate) fn verdict(&self) -> Option<Verdict>
-        ensures { result ≡ while_started self.now (verdict_of self.now) }
-    {
-        match self {
-            Mode::Open => None,
-            Mode::Running(trial) => Some(Verdict::Running {
-                instant: trial.instant(),
-            }),
-            Mode::Held(_, first, second) => Some(Verdict::Holds {
-                first: *first,
-                second: *second,
-            }),
-            Mode::Missed(_, task, instant) => Some(Verdict::Missed {
-                task: *task,
-                instant: *instant,
-            }),
-        }
-    }
-
-    /// The tasks that ran in the last slot, a bit for each, unless the bench is open.
-    pub(crate) fn set(&self) -> Option<u32>
-        ensures { result ≡ while_started self.now (set_of self.now) }
-    {
-        match self {
-            Mode::Open => None,
-            Mode::Running(trial) | Mode::Held(trial, ..) | Mode::Missed(trial, ..) => {
-                Some(trial.ran())
-            }
-        }
-    }
-}
 
 impl<P: Policy> Bench<P> {
     /// The trial that a start would put the bench into.

@@ -1,5 +1,6 @@
-ghost use Rattle.std.specs.Prelude.{Some};
+ghost use Rattle.std.specs.Prelude.{◌≡◌, Some};
 ghost use Rattle.bench.specs.Lines.{verdict_text};
+ghost use Rattle.bench.specs.Modes.{is_decided};
 
 use std::fmt;
 
@@ -12,6 +13,15 @@ pub enum Verdict {
     Missed { task: u8, instant: u64 },
     /// Nothing is decided at this instant.
     Running { instant: u64 },
+}
+
+impl Verdict {
+    /// Whether the verdict is not "running".
+    pub fn is_decided(&self) -> bool
+        ensures { result ≡ is_decided self.now }
+    {
+        !matches!(self, Verdict::Running { .. })
+    }
 }
 
 /// The verdict's line without its end.

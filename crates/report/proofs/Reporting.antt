@@ -1,13 +1,8 @@
 -- Four lines make a report, or the first alone.
-use Rattle.std.proofs.Common.{◌≡◌, ℕ, ◌+◌, zero-add, ◌≤◌, Bool, false, leb, List, ◌++◌, length, Some, None, Ok, Err, Option, Result, sym, ap, ◌∙◌, subst}
+use Rattle.std.proofs.Common.{◌≡◌, ℕ, ◌+◌, zero-add, ◌≤◌, Bool, leb, List, ◌++◌, length, Ok, Err, Result, subst}
 use Rattle.task.specs.declared.entry.Entry.{Entry}
-use Rattle.sheet.specs.Decoding.{Answer}
-use Rattle.sheet.proofs.Single.{one_answer}
-use Rattle.bench.specs.declared.fault.Fault.{Fault}
 use Rattle.bench.specs.declared.verdict.Verdict.{Verdict}
 use Rattle.bench.specs.Lines.{verdict_line, fault_line}
-use Rattle.bench.specs.Refusing.{placed}
-use Rattle.bench.specs.Steps.{start_refusal}
 use Rattle.sheet.specs.Buffers.{Written, BeginsWith}
 use Rattle.sheet.proofs.Writing.{text_more, from_start}
 use Rattle.policy.specs.Keys.{time_to_deadline, heavy_key, heavy_first}
@@ -17,7 +12,7 @@ use Rattle.report.specs.Reports.{rank_of, Report, Reports, VerdictsOfSheet, verd
 use lib.Signed.{le_z}
 use Rattle.report.proofs.Lining.{has_room}
 use Rattle.report.proofs.Single.{never_faulty}
-use Rattle.report.specs.Prints.{Faulty, no_sheet, no_start, VerdictOfSheet, PrintsAt}
+use Rattle.report.specs.Prints.{VerdictOfSheet, PrintsAt}
 
 -- the text of four verdicts, a line after another
 module _ (bytes : List ℕ) (d r hd hr : Verdict) (js : VerdictsOfSheet bytes d r hd hr) (before a b c after : List ℕ) (n₁ n₂ n₃ n₄ : ℕ)

@@ -18,6 +18,7 @@ pub record Prepared {P : Type 0} (bytes : List ℕ) (v u : View P) : Type 0 wher
   pub fresh : Fresh (entry_at u.tasks) cpus trial
   pub after : u ≡ record { policy = v.policy; tasks = u.tasks; mode = Running trial }
 
+-- what preparing does, by its answer: the bench is prepared, or the sheet has a fault
 abbrev pub Prepares : {P : Type 0} → List ℕ → View P → Result (Unit {0}) Fault → View P → Type 0
 Prepares bytes v (Ok _) u = Prepared bytes v u
 Prepares bytes v (Err f) u = Faulty bytes f

@@ -1,11 +1,8 @@
-ghost use Rattle.std.specs.Prelude.{◌≡◌, ℕ, Some, None, Ok, Err, ◌≢◌};
-ghost use Rattle.task.specs.Tables.{entry_at, entries};
-ghost use Rattle.trial.specs.Trials.{Fresh};
+ghost use Rattle.std.specs.Prelude.{◌≡◌, ◌≢◌};
 ghost use Rattle.bench.specs.declared.mode.Mode.TheVariants.{Open};
 ghost use Rattle.bench.specs.Judged.{GivenRuns};
 ghost use Rattle.bench.specs.Modes.{is_decided, verdict_of};
-ghost use Rattle.bench.specs.Seen.{view};
-ghost use Rattle.bench.specs.Steps.{plan_for, with_mode, GoesOn};
+ghost use Rattle.bench.specs.Steps.{view, plan_for, with_mode, GoesOn};
 ghost use Rattle.report.specs.Prints.{Prints};
 ghost use Rattle.report.specs.Prepares.{Prepares};
 

@@ -11,7 +11,7 @@ use policy::policy::Policy;
 use policy::rank::Rank;
 use task::refusal::Refusal;
 
-/// A buffer for a report has at least as many bytes: four lines.
+/// How many bytes a buffer for a report has at least: those of four lines.
 pub const REPORT_LENGTH: usize = 192;
 
 /// Judges a sheet under a policy, writes the line at `at`, and answers where a verdict's line ends.

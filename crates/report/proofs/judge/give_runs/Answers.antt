@@ -1,7 +1,6 @@
 use Rattle.std.proofs.Common.{◌≡◌, ◌+◌, ◌*◌, sym, refl, ◌∙◌, subst, arith}
 use Rattle.bench.specs.Judged.{GivenRuns, none}
-use Rattle.bench.specs.Seen.{view}
-use Rattle.bench.specs.Steps.{plan_for}
+use Rattle.bench.specs.Steps.{view, plan_for}
 use Rattle.report.proofs.Giving.{stays_started, given_rest, same_but_mode, run_more}
 use Rattle.report.proofs.judge.give_runs.Goals as goal
 

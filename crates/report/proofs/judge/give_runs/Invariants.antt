@@ -1,8 +1,7 @@
 use Rattle.std.proofs.Common.{◌≡◌, ◌*◌}
 use Rattle.bench.specs.declared.mode.Mode.TheVariants.{Open}
 use Rattle.bench.specs.Judged.{GivenRuns}
-use Rattle.bench.specs.Seen.{view}
-use Rattle.bench.specs.Steps.{plan_for, with_mode}
+use Rattle.bench.specs.Steps.{view, plan_for, with_mode}
 use Rattle.report.proofs.judge.give_runs.Given as goal
 
 abbrev pub invariant-loop : goal.invariant-loop

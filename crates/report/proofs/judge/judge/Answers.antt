@@ -1,6 +1,6 @@
 use Rattle.std.proofs.Common.{length, arith}
 use Rattle.bench.specs.Modes.{verdict_of}
-use Rattle.bench.specs.Seen.{view}
+use Rattle.bench.specs.Steps.{view}
 use Rattle.report.proofs.Lining.{has_room}
 use Rattle.report.proofs.Printing.{verdict_of_sheet}
 use Rattle.report.proofs.judge.judge.Goals as goal

@@ -1,6 +1,6 @@
 use Rattle.std.proofs.Common.{refl}
 use Rattle.bench.specs.Calls.{asking_line, WrittenAnswer}
-use Rattle.bench.specs.Seen.{view}
+use Rattle.bench.specs.Steps.{view}
 use Rattle.bench.proofs.Judging.{since_only}
 use Rattle.bench.proofs.Keeping.{lawful}
 use Rattle.bench.proofs.bench.Bench.line.Goals as goal

@@ -1,4 +1,4 @@
-use Rattle.bench.specs.Seen.{view}
+use Rattle.bench.specs.Steps.{view}
 use Rattle.bench.proofs.Sheeting.{takes_sheets}
 use Rattle.bench.proofs.bench.Bench.load.Goals as goal
 

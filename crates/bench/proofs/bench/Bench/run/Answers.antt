@@ -1,5 +1,5 @@
 use Rattle.bench.specs.Calls.{running_for}
-use Rattle.bench.specs.Seen.{view}
+use Rattle.bench.specs.Steps.{view}
 use Rattle.bench.proofs.Answering.{run_judged}
 use Rattle.bench.proofs.Keeping.{lawful}
 use Rattle.bench.proofs.bench.Bench.run.Goals as goal

@@ -1,5 +1,5 @@
 use Rattle.bench.specs.Calls.{asking_set}
-use Rattle.bench.specs.Seen.{view}
+use Rattle.bench.specs.Steps.{view}
 use Rattle.bench.proofs.Keeping.{lawful}
 use Rattle.bench.proofs.bench.Bench.set.Goals as goal
 
