@@ -1,7 +1,8 @@
--- A test of all numbers below one, and a count of numbers of which only the first can pass.
+-- A test of all numbers below n, and a count of numbers of which only the first can pass.
 use Rattle.std.proofs.Common.{◌≡◌, ℕ, zero, suc, ◌+◌, ◌-◌, ◌<◌, ◌≤◌, Bool, true, false, ◌&&◌, refl, ap, ◌∙◌, ⊎_elim, arith}
-use Rattle.std.proofs.lemmas.Bool.{cases_lt, and_parts, and_from, cond-false}
-use Rattle.schedule.specs.Counting.{sum_below, count_below}
+use Rattle.std.proofs.lemmas.Bool.{cases_lt, and_parts, and_from}
+use Rattle.schedule.specs.Counting.{count_below}
+use Rattle.schedule.proofs.Sums.{count_stops}
 
 abbrev pub every_below : ℕ → (ℕ → Bool) → Bool
 every_below zero f = true
@@ -20,12 +21,5 @@ pub from_each : (n : ℕ) (f : ℕ → Bool) → ((i : ℕ) → i < n → f i �
 from_each zero f h = refl
 from_each (suc n) f h = and_from (f n) (every_below n f) (h n (omega arith)) (from_each n f (λ i l. h i (omega arith)))
 
-count_on : (f : ℕ → Bool) (n d : ℕ) → ((j : ℕ) → n ≤ j → f j ≡ false) → count_below (n + d) f ≡ count_below n f
-unfolding sum_below
-count_on f n zero h = let e : n + 0 ≡ n = omega arith in rw e refl
-count_on f n (suc d) h =
-    let e : n + suc d ≡ suc (n + d) = omega arith in
-    rw e (omega (arith, cond-false {A = ℕ} (f (n + d)) 1 0 (h (n + d) (omega arith)), count_on f n d h))
-
 pub count_front : (f : ℕ → Bool) (n k : ℕ) → n ≤ k → ((j : ℕ) → n ≤ j → f j ≡ false) → count_below k f ≡ count_below n f
-count_front f n k l h = let e : k ≡ n + (k - n) = omega arith in ap (λ x. count_below x f) e ∙ count_on f n (k - n) h
+count_front f n k l h = let e : k ≡ n + (k - n) = omega arith in ap (λ x. count_below x f) e ∙ count_stops f (k - n) n (λ j m _. h j m)

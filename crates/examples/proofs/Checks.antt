@@ -1,7 +1,7 @@
 -- A row by one test that computes, and the rows of a table one after the other.
-use Rattle.std.proofs.Common.{◌≡◌, ℕ, zero, suc, ◌*◌, ◌<◌, ◌≤◌, Bool, true, false, not, ◌&&◌, eqb, ltb, leb, List, [], ◌∷◌, length, get_or, Option, None, Some, is_some, sym, refl, ap, ◌∙◌, mul_comm, mul-le-mul, mul-pos, zero-mul, arith}
+use Rattle.std.proofs.Common.{◌≡◌, ℕ, zero, suc, ◌*◌, ◌<◌, ◌≤◌, Bool, true, false, not, ◌&&◌, eqb, ltb, leb, List, [], ◌∷◌, length, get_or, Option, None, is_some, sym, refl, ap, ◌∙◌, mul_comm, mul-le-mul, mul-pos, zero-mul, arith}
 use Rattle.std.specs.List.{AllByRecursion}
-use Rattle.std.proofs.lemmas.Bool.{and_parts, both_ways, leb-true, ltb-true, eqb-true, lt-ltb, le-ltb}
+use Rattle.std.proofs.lemmas.Bool.{and_parts, not-true, leb-true, ltb-true, eqb-true, lt-ltb, le-ltb}
 use Rattle.schedule.specs.Counting.{count_below}
 use Rattle.schedule.specs.Plan.{Plan, plain}
 use Rattle.schedule.specs.Schedule.{has_cpu, config}
@@ -10,6 +10,7 @@ use Rattle.schedule.proofs.Same.{has_cpu_same}
 use Rattle.task.specs.declared.entry.Entry.{Entry}
 use Rattle.task.specs.Rules.{cpus_refusal}
 use Rattle.task.specs.Tables.{InBounds}
+use Rattle.task.proofs.Obeying.{none_of}
 use Rattle.policy.specs.Keys.{is_heavy}
 use Rattle.policy.specs.Sets.{left_of, word_of}
 use Rattle.policy.proofs.Words.{word_same}
@@ -32,8 +33,7 @@ same_so false true e = e
 same_so false false e = refl
 
 none_so : {A : Type 0} (r : Option A) → not (is_some r) ≡ true → r ≡ None
-none_so None e = refl
-none_so (Some x) e = absurd (both_ways false refl e)
+none_so r e = none_of r (not-true (is_some r) e)
 
 no_entry : (es : List Entry) (i : ℕ) → length es ≤ i → is_some (entry_in es i) ≡ false
 no_entry [] i h = refl

@@ -30,6 +30,7 @@ pub data Row : Type 0 where
   -- .. and of one whose hyperperiod is why the start is refused.
   TooLongToStart : (cpus : ℕ) (table : List Entry) (period : ℕ) → Row
 
+-- what a row says of the endless schedule, of a threshold or of a start
 abbrev pub Right : Row → Type 0
 Right (VerdictAfter policy m table s v) = let p = plan_under policy table in Fixes p (plain p m) s v
 Right (LeftAt policy m table t left) = let p = plan_under policy table in (i : ℕ) → i < length table → config p (plain p m) t i ≡ left_of left i

@@ -36,5 +36,6 @@ entry_in [] i = None
 entry_in (e ∷ es) zero = Some e
 entry_in (e ∷ es) (suc i) = entry_in es i
 
+-- the plan of a table under a policy
 abbrev pub plan_under : Policy → List Entry → Plan
 plan_under policy table = plan_of (keyed policy) (precedes policy) (entry_in table)

@@ -7,7 +7,8 @@ use Rattle.task.specs.declared.entry.Entry.{Entry}
 use Rattle.examples.specs.Policies.{Deadline, Rank, HeavyFirstOver}
 use Rattle.examples.specs.Kinds.{Row, VerdictAfter, LeftAt, RunningFrom, HeavyAt, AllHeavyAt, NoneHeavyAt, MayStart, TooLongToStart, Right}
 
--- a task by its number, which is its rank too and picks the letter that names it, and its offset O, running time C, deadline D and period T
+-- a task by its number, which is its rank too and picks the letter that names it, and its offset O, running time C, deadline D
+-- and period T
 abbrev pub task : (number O C D T : ℕ) → Entry
 task i O C D T = record { number = i; name = (65 + i) ∷ 32 ∷ 32 ∷ 32 ∷ 32 ∷ 32 ∷ 32 ∷ 32 ∷ []; rank = i; offset = O; runtime = C; deadline = D; period = T }
 
@@ -120,6 +121,7 @@ a_hyperperiod_just_short_enough_starts = MayStart 1 (task 0 0 1 3161 3161 ∷ ta
 abbrev pub a_hyperperiod_just_too_long_is_refused : Row
 a_hyperperiod_just_too_long_is_refused = TooLongToStart 1 (task 0 0 1 3162 3162 ∷ task 1 0 1 3163 3163 ∷ []) 10001406
 
+-- all worked examples
 abbrev pub rows : List Row
 rows =
     a_full_cpu_holds

@@ -1,1 +1,2 @@
+-- What the contracts of the program say; what it reads and prints is tested.
 pub mod Denials

@@ -18,6 +18,7 @@ pub enum Answer {
     Written(Vec<u8>),
 }
 
+/// What is printed for it.
 impl fmt::Display for Answer {
     fn fmt<W: fmt::Write>(&self, f: &mut fmt::Formatter<W>) -> fmt::Result {
         match self {

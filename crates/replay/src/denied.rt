@@ -21,6 +21,7 @@ pub enum Denied {
     Memory(AllocError),
 }
 
+/// What is printed for it.
 impl fmt::Display for Denied {
     fn fmt<W: fmt::Write>(&self, f: &mut fmt::Formatter<W>) -> fmt::Result {
         match self {
@@ -32,6 +33,7 @@ impl fmt::Display for Denied {
     }
 }
 
+/// A refusal stays what it is.
 impl From<Refusal> for Denied {
     ghost from_gives = { λ e r. r ≡ Call e };
 
@@ -40,6 +42,7 @@ impl From<Refusal> for Denied {
     }
 }
 
+/// The fault of a load stays what it is.
 impl From<LoadFault> for Denied {
     ghost from_gives = { λ e r. r ≡ Sheet e };
 
@@ -48,6 +51,7 @@ impl From<LoadFault> for Denied {
     }
 }
 
+/// Lack of memory stays what it is.
 impl From<AllocError> for Denied {
     ghost from_gives = { λ e r. r ≡ Memory e };
 

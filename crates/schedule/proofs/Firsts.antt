@@ -1,4 +1,4 @@
--- The first number that has a property, and properties of all numbers below one.
+-- The first number that has a property, and properties of all numbers below n.
 use Rattle.std.proofs.Common.{◌≡◌, ℕ, zero, suc, ◌<◌, ◌≤◌, ◌⊎◌, inl, inr, ⊎_elim, arith}
 use Rattle.std.proofs.lemmas.Bool.{cases_lt}
 

@@ -1,5 +1,5 @@
 -- Euclid's steps give the greatest common divisor, and lcm_below gives the least common multiple.
-use Rattle.std.proofs.Common.{◌≡◌, ℕ, zero, suc, ◌+◌, ◌/◌, ◌%◌, ◌<◌, ◌≤◌, eqb, sym, refl, ◌∙◌, ⊎_elim, add-zero, mod-lt, mul-one, div-one, add-one, arith}
+use Rattle.std.proofs.Common.{◌≡◌, ℕ, zero, suc, ◌+◌, ◌%◌, ◌<◌, ◌≤◌, eqb, sym, refl, ◌∙◌, ⊎_elim, add-zero, mod-lt, add-one, arith}
 use Prim.Native.Nat.{◌∣◌}
 use native.Mathlib.Nat.{dvd_trans, one-dvd, pos_of_dvd_of_pos, le_of_dvd}
 use Rattle.std.proofs.lemmas.Bool.{cases_lt, cond-false, ne_eqb}

@@ -82,3 +82,11 @@ pub count_upto : (b : ℕ → Bool) (d n : ℕ) → count_below n b ≤ count_be
 unfolding sum_below
 count_upto b zero n = let e : n + 0 ≡ n = omega arith in rw e (omega arith)
 count_upto b (suc d) n = let e : n + suc d ≡ suc (n + d) = omega arith in rw e (omega (arith, count_upto b d n))
+
+-- from a number on nothing passes, so that a longer count is the same
+pub count_stops : (test : ℕ → Bool) (d n : ℕ) → ((k : ℕ) → n ≤ k → k < n + d → test k ≡ false) → count_below (n + d) test ≡ count_below n test
+unfolding sum_below
+count_stops test zero n h = let e : n + 0 ≡ n = omega arith in rw e refl
+count_stops test (suc d) n h =
+    let e : n + suc d ≡ suc (n + d) = omega arith in
+    rw e (omega (arith, cond-false {A = ℕ} (test (n + d)) 1 0 (h (n + d) (omega arith) (omega arith)), count_stops test d n (λ k l m. h k l (omega arith))))

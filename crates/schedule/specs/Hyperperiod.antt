@@ -4,14 +4,16 @@ use Rattle.std.specs.Int.{◌∣◌}
 use Rattle.schedule.specs.Counting.{largest_below}
 use Rattle.schedule.specs.Plan.{Plan, HasTask}
 
--- the greatest common divisor by Euclid's steps, as many as may be needed
+-- so many of Euclid's steps, at the most
 unfoldable pub gcd_within : (steps a b : ℕ) → ℕ
 gcd_within zero a b = a
 gcd_within (suc n) a b = cond (b == 0) a (gcd_within n b (a % b))
 
+-- the greatest common divisor: b steps are enough
 abbrev pub gcd : (a b : ℕ) → ℕ
 gcd a b = gcd_within b a b
 
+-- the least common multiple
 abbrev pub lcm : (a b : ℕ) → ℕ
 lcm a b = (a / gcd a b) * b
 
@@ -20,11 +22,11 @@ unfoldable pub lcm_below : ℕ → (ℕ → ℕ) → ℕ
 lcm_below zero f = 1
 lcm_below (suc n) f = lcm (lcm_below n f) (f n)
 
--- Omax
+-- Omax, the largest offset
 abbrev pub last_offset : Plan → ℕ
 last_offset p = largest_below p.tasks (λ i. cond (p.present i) (p.offset i) 0)
 
--- P
+-- P, the least common multiple of the periods
 abbrev pub hyperperiod : Plan → ℕ
 hyperperiod p = lcm_below p.tasks (λ i. cond (p.present i) (p.period i) 1)
 

@@ -10,6 +10,7 @@ Decided (Missed i t) = Unit {0}
 Decided (Holds a b) = Unit {0}
 Decided (Running t) = ⊥
 
+-- the verdict is "holds"
 abbrev pub IsHolds : Verdict → Type 0
 IsHolds (Missed i t) = ⊥
 IsHolds (Holds a b) = Unit {0}

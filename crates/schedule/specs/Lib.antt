@@ -1,3 +1,4 @@
+-- The endless schedule and its theorems, in the order in which to read them.
 pub mod Counting
 pub mod Plan
 pub mod Hyperperiod

@@ -19,6 +19,7 @@ pub record FirstAgreement (p : Plan) (w : Way) (k : ℕ) : Type 0 where
 abbrev pub NoMissBy : Plan → Way → ℕ → Type 0
 NoMissBy p w s = (i t : ℕ) → i < p.tasks → t ≤ s → ¬ Misses p w i t
 
+-- "missed", with the task and the instant; "holds", with the instants of two boundaries; or "running", with the instant
 pub data Verdict : Type 0 where
   Missed : (task instant : ℕ) → Verdict
   Holds : (first second : ℕ) → Verdict
