@@ -10,26 +10,31 @@ use Rattle.policy.specs.Sets.{left_of}
 use Rattle.examples.proofs.Below.{every_below, at_each, from_each}
 use Rattle.examples.proofs.Places.{config_none, misses_none}
 
--- The tests: `h` has what is left at each instant.
+-- The tests, where `h` has what is left at each instant before rules 1 and 2: task i's job misses at t ..
 abbrev pub miss_test : Plan → List (List ℕ) → (t i : ℕ) → Bool
 miss_test p h t i = deadline_at p i t && ltb 0 (left_of (get_or h t []) i)
 
+-- .. no job misses at t ..
 abbrev pub calm_test : Plan → ℕ → List (List ℕ) → ℕ → Bool
 calm_test p n h t = every_below n (λ i. not (miss_test p h t i))
 
+-- .. with the configuration at t, ..
 abbrev pub config_computed : Plan → ℕ → List (List ℕ) → (t i : ℕ) → ℕ
 config_computed p m h t i = opened p (plain p m) i t (left_of (get_or h t []) i)
 
-abbrev pub agree_test : Plan → (m n : ℕ) → List (List ℕ) → (x y : ℕ) → Bool
-agree_test p m n h x y = every_below n (λ i. eqb (config_computed p m h x i) (config_computed p m h y i))
+-- .. the configurations at x and y are equal ..
+abbrev pub same_left_test : Plan → (m n : ℕ) → List (List ℕ) → (x y : ℕ) → Bool
+same_left_test p m n h x y = every_below n (λ i. eqb (config_computed p m h x i) (config_computed p m h y i))
 
-abbrev pub agrees_test : Plan → (m n : ℕ) → List (List ℕ) → ℕ → Bool
-agrees_test p m n h k = agree_test p m n h (boundary p k) (boundary p (suc k))
+-- .. boundaries k and k + 1 agree
+abbrev pub agree_test : Plan → (m n : ℕ) → List (List ℕ) → ℕ → Bool
+agree_test p m n h k = same_left_test p m n h (boundary p k) (boundary p (suc k))
 
+-- what is to be tested for each verdict; for "holds", k is the boundary that a is
 abbrev pub holds_test : Plan → (m n : ℕ) → List (List ℕ) → (s a b k : ℕ) → Bool
 holds_test p m n h s a b k =
     eqb a (boundary p k) && (eqb b (boundary p (suc k)) && (leb b s && (every_below (suc s) (calm_test p n h)
-    && (agree_test p m n h a b && every_below k (λ j. not (agrees_test p m n h j))))))
+    && (same_left_test p m n h a b && every_below k (λ j. not (agree_test p m n h j))))))
 
 abbrev pub missed_test : Plan → (m n : ℕ) → List (List ℕ) → (s i t : ℕ) → Bool
 missed_test p m n h s i t =
@@ -38,7 +43,7 @@ missed_test p m n h s i t =
 abbrev pub running_test : Plan → (m n : ℕ) → List (List ℕ) → (s u : ℕ) → Bool
 running_test p m n h s u =
     eqb u s && (every_below (suc s) (calm_test p n h) && (ltb 0 (hyperperiod p)
-    && every_below s (λ k. not (leb (boundary p (suc k)) s && agrees_test p m n h k))))
+    && every_below s (λ k. not (leb (boundary p (suc k)) s && agree_test p m n h k))))
 
 abbrev pub fixes_test : Plan → (m n : ℕ) → List (List ℕ) → ℕ → Verdict → Bool
 fixes_test p m n h s (Missed i t) = missed_test p m n h s i t
@@ -71,8 +76,8 @@ module _ (p : Plan) (m n s : ℕ) (fits : n ≤ p.tasks) (none : (i : ℕ) → n
   pub config_so : (t i : ℕ) → t ≤ s → config_computed p m h t i ≡ config p (plain p m) t i
   config_so t i l = ap (opened p (plain p m) i t) (known t l i)
 
-  agree_so : (x y : ℕ) → x ≤ s → y ≤ s → agree_test p m n h x y ≡ true → (i : ℕ) → config p (plain p m) x i ≡ config p (plain p m) y i
-  agree_so x y lx ly e i =
+  same_left_so : (x y : ℕ) → x ≤ s → y ≤ s → same_left_test p m n h x y ≡ true → (i : ℕ) → config p (plain p m) x i ≡ config p (plain p m) y i
+  same_left_so x y lx ly e i =
       ⊎_elim
       (λ (b : i < n).
       sym (config_so x i lx)
@@ -81,7 +86,7 @@ module _ (p : Plan) (m n s : ℕ) (fits : n ≤ p.tasks) (none : (i : ℕ) → n
       (λ (g : n ≤ i). config_none p m i x (none i g) ∙ sym (config_none p m i y (none i g)))
       (cases_lt i n)
 
-  so_agree : (k : ℕ) → boundary p (suc k) ≤ s → Agree p (plain p m) k → agrees_test p m n h k ≡ true
+  so_agree : (k : ℕ) → boundary p (suc k) ≤ s → Agree p (plain p m) k → agree_test p m n h k ≡ true
   so_agree k l agree =
       let earlier : boundary p k ≤ s = omega (arith, boundary_mono p k (suc k) (omega arith)) in
       from_each n (λ i. eqb (config_computed p m h (boundary p k) i) (config_computed p m h (boundary p (suc k)) i))
@@ -89,8 +94,8 @@ module _ (p : Plan) (m n s : ℕ) (fits : n ≤ p.tasks) (none : (i : ℕ) → n
       eq-eqb (config_computed p m h (boundary p k) i) (config_computed p m h (boundary p (suc k)) i)
       (config_so (boundary p k) i earlier ∙ (agree i (omega arith) ∙ sym (config_so (boundary p (suc k)) i l))))
 
-  no_agree : (k : ℕ) → boundary p (suc k) ≤ s → not (agrees_test p m n h k) ≡ true → ¬ Agree p (plain p m) k
-  no_agree k l e agree = both_ways (agrees_test p m n h k) (not-true (agrees_test p m n h k) e) (so_agree k l agree)
+  no_agree : (k : ℕ) → boundary p (suc k) ≤ s → not (agree_test p m n h k) ≡ true → ¬ Agree p (plain p m) k
+  no_agree k l e agree = both_ways (agree_test p m n h k) (not-true (agree_test p m n h k) e) (so_agree k l agree)
 
   holds_so : (a b k : ℕ) → holds_test p m n h s a b k ≡ true → Fixes p (plain p m) s (Holds a b)
   holds_so a b k rest0 =
@@ -106,8 +111,8 @@ module _ (p : Plan) (m n s : ℕ) (fits : n ≤ p.tasks) (none : (i : ℕ) → n
         (
           k,
           record {
-            agree = λ i _. ap (λ t. config p (plain p m) t i) (sym first) ∙ (agree_so a b (omega (arith, boundary_mono p k (suc k) (omega arith))) in_time eg i ∙ ap (λ t. config p (plain p m) t i) second);
-            none_earlier = λ j l. no_agree j (omega (arith, boundary_mono p (suc j) (suc k) (omega arith))) (at_each k (λ j. not (agrees_test p m n h j)) ef j l);
+            agree = λ i _. ap (λ t. config p (plain p m) t i) (sym first) ∙ (same_left_so a b (omega (arith, boundary_mono p k (suc k) (omega arith))) in_time eg i ∙ ap (λ t. config p (plain p m) t i) second);
+            none_earlier = λ j l. no_agree j (omega (arith, boundary_mono p (suc j) (suc k) (omega arith))) (at_each k (λ j. not (agree_test p m n h j)) ef j l);
           },
           first,
           second,
@@ -141,9 +146,9 @@ module _ (p : Plan) (m n s : ℕ) (fits : n ≤ p.tasks) (none : (i : ℕ) → n
         λ k l agree.
             ⊎_elim
             (λ (b : k < s).
-            both_ways (leb (boundary p (suc k)) s && agrees_test p m n h k)
-            (not-true (leb (boundary p (suc k)) s && agrees_test p m n h k) (at_each s (λ k. not (leb (boundary p (suc k)) s && agrees_test p m n h k)) ek k b))
-            (and_from (leb (boundary p (suc k)) s) (agrees_test p m n h k) (le-leb (boundary p (suc k)) s l) (so_agree k l agree)))
+            both_ways (leb (boundary p (suc k)) s && agree_test p m n h k)
+            (not-true (leb (boundary p (suc k)) s && agree_test p m n h k) (at_each s (λ k. not (leb (boundary p (suc k)) s && agree_test p m n h k)) ek k b))
+            (and_from (leb (boundary p (suc k)) s) (agree_test p m n h k) (le-leb (boundary p (suc k)) s l) (so_agree k l agree)))
             (λ (g : s ≤ k). let past : suc k ≤ boundary p (suc k) = omega (arith, mul-le-mul_left (suc k) positive) in omega arith)
             (cases_lt k s),
         eqb-true u s eu,
