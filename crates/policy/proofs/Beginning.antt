@@ -39,3 +39,9 @@ module _ (set : ℕ) (released : List ℕ) (t : ℕ) where
 
   pub all_begun : (rest : List ℕ) → rest ≡ [] → BegunTo rest → Begun set released t
   all_begun rest e h = subst (EachTo set (λ k. get_or released k 0 ≤ t)) (ap first e) h.1
+
+  pub not_begun : (i : ℕ) (rest more : List ℕ) → rest ≡ i ∷ more → BegunTo rest → t < get_or released i 0 → ¬ Begun set released t
+  not_begun i rest more e h late all =
+      let u = turn set rest more i h.0 e in
+      let here = all i u.within u.member in
+      absurd (omega arith)

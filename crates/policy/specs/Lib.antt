@@ -8,4 +8,5 @@ pub mod Releases
 pub mod Dispatch
 pub mod Settled
 pub mod Groups
+pub mod Deadlines
 pub mod Slots

@@ -7,8 +7,8 @@ abbrev pub stands_before : {K : Type 0} → (K → K → Bool) → K → ℕ →
 stands_before le a i b j = le a b && (not (le b a) || nat_lt i j)
 
 -- The order of keys is steady: of two jobs that both grow a slot older, the one that was at or before the other stays so.
-abbrev pub Steady : {E K : Type 0} → (E → ℕ → K) → (K → K → Bool) → Type 0
-Steady keyed le = (d e : _) (a b : ℕ) → le (keyed d (a + 1)) (keyed e (b + 1)) ≡ le (keyed d a) (keyed e b)
+abbrev pub SteadyKeys : {E K : Type 0} → (E → ℕ → K) → (K → K → Bool) → Type 0
+SteadyKeys keyed le = (d e : _) (a b : ℕ) → le (keyed d (a + 1)) (keyed e (b + 1)) ≡ le (keyed d a) (keyed e b)
 
 -- A first group before the others: of two keys in one group `le` decides.
 abbrev pub grouped : {K : Type 0} → (K → K → Bool) → Bool → K → Bool → K → Bool

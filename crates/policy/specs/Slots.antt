@@ -7,7 +7,6 @@ use Rattle.policy.specs.declared.slot.Slot.{Slot}
 use Rattle.policy.specs.declared.dispatch.Job.{Job}
 use Rattle.policy.specs.declared.dispatch.Marks.{Marks}
 use Rattle.policy.specs.Dispatch.{set_job, runs_of, Begun, Known}
-use Rattle.policy.specs.Order.{Steady}
 use Rattle.policy.specs.Plans.{plan_of}
 use Rattle.policy.specs.Sets.{left_of, word_of}
 
@@ -26,12 +25,12 @@ pub record AreTold {P K : Type 0} (keyed : P → Entry → ℕ → K) (le : P �
   pub running : IfSome marks.running (Told keyed le s true)
   pub waiting : IfSome marks.waiting (Told keyed le s false)
 
--- Why the jobs that run in a slot run on while no job is released, finishes or comes to its deadline: there are CPUs for all,
--- or the order of the jobs stays, as the policy is steady and each of them was released.
-abbrev pub Lasts : {P K : Type 0} → (P → Entry → ℕ → K) → (P → K → K → Bool) → Slot P → Type 0
-Lasts keyed le s =
+-- The jobs of the slot need not be chosen anew while none is released, finishes or comes to its deadline: there are CPUs for
+-- all, or the policy is steady and each of them was released.
+abbrev pub FewOrSteady : {P : Type 0} → (P → Bool) → Slot P → Type 0
+FewOrSteady steady s =
     (count_ones s.jobs ≤ s.cpus)
-    ⊎ (Steady (keyed s.policy.now) (le s.policy.now) × Begun s.jobs s.released.now s.instant)
+    ⊎ ((steady s.policy.now ≡ true) × Begun s.jobs s.released.now s.instant)
 
 -- the set is that of the jobs that run in the plan, whatever is left of each, where the slot's jobs and their ages are known
 abbrev pub Runs : {P K : Type 0} → (P → Entry → ℕ → K) → (P → K → K → Bool) → Slot P → ℕ → Type 0

@@ -1,5 +1,6 @@
-ghost use Rattle.std.specs.Prelude.{◌≡◌, int_le};
+ghost use Rattle.std.specs.Prelude.{◌≡◌, true, int_le};
 ghost use Rattle.policy.specs.Keys.{time_to_deadline};
+ghost use Rattle.policy.specs.Deadlines.{deadline_steady};
 ghost use Rattle.std.proofs.Common.{rules};
 
 use crate::policy::Policy;
@@ -16,9 +17,13 @@ impl Policy for Deadline {
 
     ghost precedes = { λ _. int_le };
 
+    ghost steady = { λ _. true };
+
     ghost total = { Prim.search rules };
 
     ghost transitive = { Prim.search rules };
+
+    ghost stays = { λ _ _. deadline_steady };
 
     fn key(&self, task: &Task, age: u32) -> i64 {
         i64::from(task.deadline()) - i64::from(age)

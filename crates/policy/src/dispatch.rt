@@ -1,4 +1,4 @@
-ghost use Rattle.std.specs.Prelude.{◌≡◌, ℕ, ◌<◌, true, min, None, Some, MatchOption, count_ones, nat_lt, slice_index};
+ghost use Rattle.std.specs.Prelude.{◌≡◌, ℕ, ◌<◌, true, Decides, min, None, Some, MatchOption, count_ones, nat_lt, slice_index};
 ghost use Rattle.schedule.specs.Counting.{count_below};
 ghost use Rattle.schedule.specs.Schedule.{active, has_cpu};
 ghost use Rattle.task.specs.Tables.{entry_at};
@@ -6,7 +6,7 @@ ghost use Rattle.policy.specs.Dispatch.{since, count_ahead, runs_of, is_active, 
 ghost use Rattle.policy.specs.Order.{stands_before};
 ghost use Rattle.policy.specs.Plans.{plan_of};
 ghost use Rattle.policy.specs.Sets.{left_of, word_of};
-ghost use Rattle.policy.specs.Slots.{keys_of, Told, AreTold, Lasts, Runs};
+ghost use Rattle.policy.specs.Slots.{keys_of, Told, AreTold, FewOrSteady, Runs};
 
 use crate::policy::Policy;
 use crate::release::latest_releases;
@@ -157,7 +157,7 @@ impl<P: Policy> Slot<'_, P> {
 
     // Whether every job of the slot was released by its instant.
     fn are_begun(&self) -> bool
-        ensures { result ≡ true → Begun self.now.jobs self.now.released.now self.now.instant }
+        ensures { Decides result (Begun self.now.jobs self.now.released.now self.now.instant) }
     {
         for i in members_of(self.jobs) {
             if self.released[i] > self.instant {
@@ -170,7 +170,7 @@ impl<P: Policy> Slot<'_, P> {
     /// Whether the jobs that run in the slot run on while no job is released, finishes or comes to its deadline, so that they
     /// need not be chosen anew.
     pub fn lasts(&self) -> bool
-        ensures { result ≡ true → Lasts P.Policy.keyed P.Policy.precedes self.now }
+        ensures { Decides result (FewOrSteady P.Policy.steady self.now) }
     {
         self.jobs.count_ones() <= u32::from(self.cpus)
             || (self.policy.is_steady() && self.are_begun())

@@ -1,4 +1,4 @@
-ghost use Rattle.std.specs.Prelude.{◌≡◌, nat_le};
+ghost use Rattle.std.specs.Prelude.{◌≡◌, true, refl, nat_le};
 ghost use Rattle.std.proofs.Common.{rules};
 
 use crate::policy::Policy;
@@ -15,9 +15,13 @@ impl Policy for Rank {
 
     ghost precedes = { λ _ a b. nat_le a b };
 
+    ghost steady = { λ _. true };
+
     ghost total = { Prim.search rules };
 
     ghost transitive = { Prim.search rules };
+
+    ghost stays = { λ _ _ _ _ _ _. refl };
 
     fn key(&self, task: &Task, _age: u32) -> u8 {
         task.rank()

@@ -11,8 +11,7 @@ use Rattle.task.specs.declared.entry.Entry.{Entry}
 use Rattle.task.specs.declared.task.Task.{Task}
 use Rattle.task.specs.Tables.{entry_of, entry_at}
 use Rattle.policy.specs.Dispatch.{is_active, Begun}
-use Rattle.policy.specs.Order as order
-use Rattle.policy.specs.Order.{stands_before}
+use Rattle.policy.specs.Order.{SteadyKeys}
 use Rattle.policy.specs.Plans.{plan_of, offset_of, period_of, goes_before}
 use Rattle.policy.specs.Releases.{Latest}
 use Rattle.policy.specs.Sets.{left_of, word_of}
@@ -49,7 +48,7 @@ older_by (Some k) t some h c =
 
 -- 2. the order of a steady policy's jobs
 module _ {K : Type 0} (keyed : Entry → ℕ → K) (le : K → K → Bool) where
-  goes_steady : order.Steady keyed le → (o q : Option Entry) (i a j b : ℕ) → goes_before keyed le o i (a + 1) q j (b + 1) ≡ goes_before keyed le o i a q j b
+  goes_steady : SteadyKeys keyed le → (o q : Option Entry) (i a j b : ℕ) → goes_before keyed le o i (a + 1) q j (b + 1) ≡ goes_before keyed le o i a q j b
   goes_steady s None q i a j b = refl
   goes_steady s (Some d) None i a j b = refl
   goes_steady s (Some d) (Some e) i a j b = ap₂ (λ x y. x && (not y || ltb i j)) (s d e a b) (s e d b a)
@@ -72,14 +71,15 @@ module _ {K : Type 0} (keyed : Entry → ℕ → K) (le : K → K → Bool) wher
     -- what a slot says of its jobs, it says of the plan's
     pub lasts_of : (left : List ℕ) (set : ℕ) (released : List ℕ) (m t : ℕ) → set ≡ word_of (is_active at left) 32
         → ((i : ℕ) → i < 32 → Latest (at i) t (get_or released i 0))
-        → (ones set ≤ m) ⊎ (order.Steady keyed le × Begun set released t) → Lasts plan m t (left_of left)
-    lasts_of left set released m t e latest why =
+        → (steady : Bool) → (steady ≡ true → SteadyKeys keyed le)
+        → (ones set ≤ m) ⊎ ((steady ≡ true) × Begun set released t) → Lasts plan m t (left_of left)
+    lasts_of left set released m t e latest steady stays why =
         ⊎_elim
         (λ (few : ones set ≤ m). let n : ones set ≡ count_below 32 (is_active at left) = ap ones e ∙ word_ones (is_active at left) 32 in inl (omega arith))
-        (λ (steady : order.Steady keyed le × Begun set released t).
+        (λ (same : (steady ≡ true) × Begun set released t).
         inr (
-          (λ i a j b. goes_steady steady.0 (at i) (at j) i a j b),
-          (λ i h on. offset_past (at i) t (get_or released i 0) (latest i h) (steady.1 i h (word_has (is_active at left) set i e h ∙ on))),
+          (λ i a j b. goes_steady (stays same.0) (at i) (at j) i a j b),
+          (λ i h on. offset_past (at i) t (get_or released i 0) (latest i h) (same.1 i h (word_has (is_active at left) set i e h ∙ on))),
         ))
         why
 

@@ -22,5 +22,5 @@ returns g c =
       trial = refl;
       watch = record { instants = record { tasks_kept = refl; released_kept = refl; since_kept = refl; calm_kept = refl }; active_kept = refl };
       ran_is = c.running-self.ensures a.left (known_at (entry_at w.tasks.now) a.left w.active w.released a.instant s.active_is (λ i h. latest_before w i a.instant h s.begun s.not_over));
-      lasts = λ h. lasts_of (p.keyed c.args.policy.now) (p.precedes c.args.policy.now) w.tasks.now a.left w.active w.released a.cpus a.instant s.active_is (λ i l. latest_before w i a.instant l s.begun s.not_over) (c.lasts-watch.ensures h);
+      lasts = λ h. lasts_of (p.keyed c.args.policy.now) (p.precedes c.args.policy.now) w.tasks.now a.left w.active w.released a.cpus a.instant s.active_is (λ i l. latest_before w i a.instant l s.begun s.not_over) (p.steady c.args.policy.now) (g.met.P.Policy.stays c.args.policy.now) (c.lasts-watch.ensures.0 h);
     }
