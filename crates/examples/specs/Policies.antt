@@ -3,7 +3,7 @@ use Rattle.std.specs.Prelude.{ℕ, zero, suc, Bool, List, [], ◌∷◌, ℤ, So
 use Rattle.schedule.specs.Plan.{Plan}
 use Rattle.task.specs.declared.entry.Entry.{Entry}
 use Rattle.policy.specs.declared.heavy.Weighed.{Weighed}
-use Rattle.policy.specs.Keys.{time_to_deadline, heavy_key, heavy_first}
+use Rattle.policy.specs.Keys.{time_to_deadline, rank_of, heavy_key, heavy_first}
 use Rattle.policy.specs.Plans.{plan_of}
 
 -- earliest deadline first, fixed priorities, and heavy tasks first at the threshold a / b over another policy
@@ -21,7 +21,7 @@ Key (HeavyFirstOver a b below) = Weighed (Key below)
 -- .. the key of a job, by its task and its age ..
 abbrev pub keyed : (policy : Policy) → Entry → ℕ → Key policy
 keyed Deadline = time_to_deadline
-keyed Rank = λ e _. e.rank
+keyed Rank = rank_of
 keyed (HeavyFirstOver a b below) = heavy_key a b (keyed below)
 
 -- .. and which of two keys is at or before the other

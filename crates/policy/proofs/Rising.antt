@@ -1,9 +1,8 @@
 -- The list of the members of a set, and a loop that goes along it.
-use Rattle.std.proofs.Common.{◌*◌, ◌%◌, ◌^◌, ◌≢◌, eqb, bit_and, w32, ◌≡◌, ℕ, zero, suc, ◌+◌, ◌-◌, ◌<◌, ◌≤◌, Bool, true, false, cond, List, [], ◌∷◌, drop, sym, refl, ap, ◌∙◌, ⊎_elim, arith}
-use mir.Val.{bits}
-use Rattle.std.specs.Int.{bit_not}
-use Rattle.std.proofs.lemmas.Nat.Bits.{bit_at_clear_same, bit_at_clear_other}
-use Rattle.std.proofs.lemmas.Bool.{cases_lt}
+use Rattle.std.proofs.Common.{◌/◌, ◌≢◌, eqb, bit_and, ◌≡◌, ℕ, zero, suc, ◌+◌, ◌-◌, ◌<◌, ◌≤◌, Bool, true, false, cond, List, [], ◌∷◌, drop, sym, refl, ap, ◌∙◌, ⊎_elim, arith}
+use Rattle.std.specs.Int.{bit_at}
+use Rattle.std.proofs.lemmas.Nat.Bits.{bit_at_lowest, bit_at-suc, bit_at-lt, bit_at_and}
+use Rattle.std.proofs.lemmas.Bool.{cases_lt, eqb-true, eqb-false}
 use Rattle.policy.specs.Members.{has, NextIn, rising, members_from}
 
 -- the first of a list of members, or 32 where there is none
@@ -121,20 +120,49 @@ others_same set rest low (suc n) h =
     let more = others_same set rest (low + 1) n (λ k l m. h k (omega arith) (omega arith)) in
     rw (on, more) refl
 
+-- the lowest bit of a number that is not 0 is gone from the number before it, and the bits above are the same
+module _ where
+  even_half : (n : ℕ) → bit_at n 0 ≡ 0 → (n - 1) / 2 ≡ n / 2 - 1
+  even_half n e = omega (arith, bit_at_lowest n)
+
+  gone_before : (i n : ℕ) → bit_at n i ≡ 1 → ((k : ℕ) → k < i → bit_at n k ≡ 0) → bit_at (n - 1) i ≡ 0
+  gone_before zero n on off = omega (arith, bit_at_lowest n, bit_at_lowest (n - 1))
+  gone_before (suc i) n on off =
+      bit_at-suc (n - 1) i
+      ∙ (ap (λ m. bit_at m i) (even_half n (off 0 (omega arith)))
+      ∙ gone_before i (n / 2) (sym (bit_at-suc n i) ∙ on) (λ k l. sym (bit_at-suc n k) ∙ off (suc k) (omega arith)))
+
+  same_before : (i k n : ℕ) → i < k → bit_at n i ≡ 1 → ((k : ℕ) → k < i → bit_at n k ≡ 0) → bit_at (n - 1) k ≡ bit_at n k
+  same_before i zero n l on off = absurd (omega arith)
+  same_before zero (suc k) n l on off =
+      let odd : (n - 1) / 2 ≡ n / 2 = omega (arith, bit_at_lowest n) in
+      bit_at-suc (n - 1) k ∙ (ap (λ m. bit_at m k) odd ∙ sym (bit_at-suc n k))
+  same_before (suc i) (suc k) n l on off =
+      bit_at-suc (n - 1) k
+      ∙ (ap (λ m. bit_at m k) (even_half n (off 0 (omega arith)))
+      ∙ (same_before i k (n / 2) (omega arith) (sym (bit_at-suc n i) ∙ on) (λ k l. sym (bit_at-suc n k) ∙ off (suc k) (omega arith))
+      ∙ sym (bit_at-suc n k)))
+
 -- without its lowest member, a set has its other members
 module _ (set i : ℕ) (n : NextIn set 0 i) (l : i < 32) where
   abbrev pub others : ℕ
-  others = bit_and set (bit_not w32 ((1 * 2 ^ i) % 2 ^ bits w32))
+  others = bit_and set (set - 1)
+
+  on : bit_at set i ≡ 1
+  on = eqb-true (bit_at set i) 1 (n.member l)
+
+  off : (k : ℕ) → k < i → bit_at set k ≡ 0
+  off k h = let b : bit_at set k ≢ 1 = eqb-false (bit_at set k) 1 (n.skipped k (omega arith) h) in omega (arith, bit_at-lt set k)
 
   none_below : (k : ℕ) → k ≤ i → has others k ≡ false
   none_below k h =
       ⊎_elim
-      (λ (lt : k < i). let ne : k ≢ i = omega arith in ap (λ b. eqb b 1) (bit_at_clear_other w32 set i l k (omega arith) ne) ∙ n.skipped k (omega arith) lt)
-      (λ (ge : i ≤ k). let at : k ≡ i = omega arith in rw at (ap (λ b. eqb b 1) (bit_at_clear_same w32 set i l)))
+      (λ (lt : k < i). let none : bit_at others k ≡ 0 = omega (arith, bit_at_and set (set - 1) k, off k lt) in rw none refl)
+      (λ (ge : i ≤ k). let at : k ≡ i = omega arith in let none : bit_at others i ≡ 0 = omega (arith, bit_at_and set (set - 1) i, gone_before i set on off) in rw (at, none) refl)
       (cases_lt k i)
 
   same_above : (k : ℕ) → i + 1 ≤ k → k < (i + 1) + (32 - (i + 1)) → has others k ≡ has set k
-  same_above k h m = let ne : k ≢ i = omega arith in ap (λ b. eqb b 1) (bit_at_clear_other w32 set i l k (omega arith) ne)
+  same_above k h m = let same : bit_at others k ≡ bit_at set k = omega (arith, bit_at_and set (set - 1) k, same_before i k set (omega arith) on off) in ap (λ b. eqb b 1) same
 
   pub others_from : members_from set 0 ≡ i ∷ members_from others 0
   others_from =

@@ -3,10 +3,12 @@ use Rattle.std.proofs.Common.{◌≡◌, ℕ, ◌<◌, ◌≤◌, Bool, true, fa
 use lib.Count.{ones}
 use Rattle.std.proofs.Math.Bool.{and-false}
 use Rattle.std.proofs.lemmas.Bool.{and_parts, and_from, lt-ltb, le-ltb, ltb-true, ltb-false, cases_Bool}
+use Rattle.std.proofs.lemmas.Option.{cond_some}
 use Rattle.schedule.specs.Counting.{count_below}
 use Rattle.schedule.specs.Schedule.{has_cpu, stands_ahead}
 use Rattle.schedule.proofs.Sums.{count_same, count_lt}
 use Rattle.task.specs.declared.entry.Entry.{Entry}
+use Rattle.task.proofs.Obeying.{cond_none}
 use Rattle.policy.specs.Order.{stands_before}
 use Rattle.policy.specs.Plans.{plan_of, goes_before}
 use Rattle.policy.specs.Ages.{age_of}
@@ -26,15 +28,6 @@ module _ {K : Type 0} (keyed : Entry → ℕ → K) (le : K → K → Bool) wher
   ahead_is None j b r s i a = sym (and-false (ltb 0 r))
   ahead_is (Some t) j b r s i a = flagged (ltb 0 r) (keyed t b) j (keyed s a) i
 
-  -- a job with a key: it is active, and that is its key
-  keyed_so : (x : Bool) (k l : K) → cond x (Some k) None ≡ Some l → (x ≡ true) × (k ≡ l)
-  keyed_so true k l e = (refl, cc)
-  keyed_so false k l e = absurd (cc)
-
-  unkeyed_so : (x : Bool) (k : K) → cond x (Some k) None ≡ None → x ≡ false
-  unkeyed_so true k e = absurd (cc)
-  unkeyed_so false k e = refl
-
   module _ (at : ℕ → Option Entry) (left : List ℕ) (m t : ℕ) where
     -- the keys of the active jobs
     abbrev job : ℕ → Option K
@@ -44,14 +37,14 @@ module _ {K : Type 0} (keyed : Entry → ℕ → K) (le : K → K → Bool) wher
         → (is_some o && (ltb 0 r && ltb (count_below 32 (λ j. ltb 0 (left_of left j) && goes_before keyed le (at j) j (age_of (at j) t) o i a)) m)) ≡ ltb (count_ahead le job k i) m
     runs_by None r a i k e = absurd (cc)
     runs_by (Some s) r a i k e =
-        let (on, same) = keyed_so (ltb 0 r) (keyed s a) k e in
+        let (on, same) = cond_some (ltb 0 r) (keyed s a) k e in
         ap (λ x. x && ltb (count_below 32 (λ j. ltb 0 (left_of left j) && goes_before keyed le (at j) j (age_of (at j) t) (Some s) i a)) m) on
         ∙ ap (λ n. ltb n m) (count_same 32 _ _ (λ j h. sym (ahead_is (at j) j (age_of (at j) t) (left_of left j) s i a)))
         ∙ ap (λ (l : K). ltb (count_ahead le job l i) m) same
 
     idle_by : (o : Option Entry) (r a i : ℕ) (u : Bool) → job_key keyed o a r ≡ None → (is_some o && (ltb 0 r && u)) ≡ false
     idle_by None r a i u e = refl
-    idle_by (Some s) r a i u e = ap (λ x. x && u) (unkeyed_so (ltb 0 r) (keyed s a) e)
+    idle_by (Some s) r a i u e = ap (λ x. x && u) (cond_none (ltb 0 r) (keyed s a) None e).0
 
     runs_some : (i : ℕ) (k : K) → job i ≡ Some k → has_cpu (plan_of keyed le at) m t (left_of left) i ≡ ltb (count_ahead le job k i) m
     runs_some i k e = runs_by (at i) (left_of left i) (age_of (at i) t) i k e

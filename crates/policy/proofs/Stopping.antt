@@ -2,20 +2,12 @@
 use Rattle.std.proofs.Common.{◌≡◌, ℕ, zero, suc, ◌+◌, ◌-◌, ◌*◌, ◌^◌, ◌<◌, ◌≤◌, ◌%◌, Bool, true, false, cond, List, ◌∷◌, sym, ap, ◌∙◌, ⊎_elim, arith}
 use lib.Bits.{bit_or}
 use Rattle.std.proofs.lemmas.Bool.{cases_Bool}
-use Rattle.schedule.specs.Counting.{sum_below, count_below}
-use Rattle.schedule.proofs.Sums.{count_none, count_more, count_upto}
+use Rattle.schedule.specs.Counting.{count_below}
+use Rattle.schedule.proofs.Sums.{count_none, count_more, count_upto, count_stops}
 use Rattle.policy.specs.Members.{has, NextIn}
 use Rattle.policy.specs.Sets.{bit, word_of}
 use Rattle.policy.proofs.Rising.{first, Turn, next_past}
 use Rattle.policy.proofs.Words.{word_none, word_set, word_keep}
-
-pub count_stops : (test : ℕ → Bool) (d n : ℕ) → ((k : ℕ) → n ≤ k → k < n + d → test k ≡ false) → count_below (n + d) test ≡ count_below n test
-unfolding sum_below
-count_stops test zero n h = let e : n + 0 ≡ n = omega arith in ap (λ k. count_below k test) e
-count_stops test (suc d) n h =
-    let e : n + suc d ≡ suc (n + d) = omega arith in
-    let z : ◌≡◌ {A = ℕ} (cond (test (n + d)) 1 0) 0 = ap (λ b. cond b 1 0) (h (n + d) (omega arith) (omega arith)) in
-    rw e (omega (arith, z, count_stops test d n (λ k l m. h k l (omega arith))))
 
 pub word_stops : (test : ℕ → Bool) (d n : ℕ) → ((k : ℕ) → n ≤ k → k < n + d → test k ≡ false) → word_of test (n + d) ≡ word_of test n
 unfolding word_of

@@ -1,10 +1,11 @@
 -- The bits of a word that stands for a set, and how the word grows by a number.
-use Rattle.std.proofs.Common.{◌≡◌, ℕ, zero, suc, ◌+◌, ◌-◌, ◌*◌, ◌/◌, ◌%◌, ◌^◌, ◌<◌, ◌≤◌, Bool, true, false, cond, eqb, sym, refl, ap, ◌∙◌, ap₂, ⊎_elim, pow-suc, add-one, arith}
+use Rattle.std.proofs.Common.{◌≡◌, ℕ, zero, suc, ◌+◌, ◌-◌, ◌*◌, ◌/◌, ◌%◌, ◌^◌, ◌<◌, ◌≤◌, Bool, true, false, cond, not, ◌&&◌, eqb, min, bit_and, w32, sym, refl, ap, ◌∙◌, ap₂, ⊎_elim, pow-suc, add-one, arith}
 use lib.Count.{ones, ones_in, ones_cat}
 use Rattle.schedule.specs.Counting.{sum_below, count_below}
 use lib.Bits.{bit_or}
+use Rattle.std.specs.Int.{bit_at, bit_not}
 use Rattle.std.proofs.lemmas.Nat.{mul-le, or_shifted, or_comm, shl_whole}
-use Rattle.std.proofs.lemmas.Nat.Bits.{bit_at_lowest, bit_at_cat_low, bit_at_cat_high}
+use Rattle.std.proofs.lemmas.Nat.Bits.{bit_at-zero, bit_at_lowest, bit_at_cat_low, bit_at_cat_high, same_from_bits_below, bit_at_and, bit_at_not}
 use Rattle.std.proofs.lemmas.Bool.{cases_lt}
 use Rattle.policy.specs.Members.{has}
 use Rattle.policy.specs.Sets.{bit, word_of}
@@ -16,6 +17,23 @@ bit_below false = omega arith
 bit_mod : (b : Bool) → bit b % 2 ≡ bit b
 bit_mod true = refl
 bit_mod false = refl
+
+-- what is one bit, 0 or 1
+bit_as : (n : ℕ) → n < 2 → n ≡ bit (eqb n 1)
+bit_as zero h = refl
+bit_as (suc zero) h = refl
+bit_as (suc (suc n)) h = absurd (omega arith)
+
+bit_without : (a b n : ℕ) → a < 2 → b < 2 → n ≡ min a (1 - b) → eqb n 1 ≡ (eqb a 1 && not (eqb b 1))
+bit_without zero b n h l e = let z : n ≡ 0 = omega arith in rw z refl
+bit_without (suc zero) zero n h l e = let z : n ≡ 1 = omega arith in rw z refl
+bit_without (suc zero) (suc zero) n h l e = let z : n ≡ 0 = omega arith in rw z refl
+bit_without (suc zero) (suc (suc b)) n h l e = absurd (omega arith)
+bit_without (suc (suc a)) b n h l e = absurd (omega arith)
+
+-- the empty set has no member
+pub none_has : (i : ℕ) → has 0 i ≡ false
+none_has i = ap (λ b. eqb b 1) (bit_at-zero i)
 
 module _ (f : ℕ → Bool) where
   pub word_none : word_of f 0 ≡ 0
@@ -50,6 +68,10 @@ module _ (f : ℕ → Bool) where
   pub word_has : (set i : ℕ) → set ≡ word_of f 32 → i < 32 → has set i ≡ f i
   word_has set i e h = ap (λ w. eqb ((w / 2 ^ i) % 2) 1) e ∙ (ap (λ n. eqb n 1) (word_bit 32 i h) ∙ bit_test (f i))
 
+  -- and the set whose members are those that pass is no other
+  pub word_is : (set : ℕ) → set < 2 ^ 32 → ((i : ℕ) → i < 32 → has set i ≡ f i) → set ≡ word_of f 32
+  word_is set low same = same_from_bits_below 32 set (word_of f 32) low (word_below 32) (λ i h. bit_as ((set / 2 ^ i) % 2) (omega arith) ∙ (ap bit (same i h) ∙ sym (word_bit 32 i h)))
+
   bit_ones : (b : Bool) → ones (bit b) ≡ cond b 1 0
   unfolding ones ones_in
   bit_ones true = refl
@@ -69,6 +91,23 @@ module _ (f : ℕ → Bool) where
 
   pub word_keep : (n m : ℕ) → m ≡ word_of f n → f n ≡ false → m ≡ word_of f (n + 1)
   word_keep n m e t = omega (arith, word_more n, ap (λ b. bit b * 2 ^ n) t)
+
+  -- numbers that do not pass leave the word as it is
+  word_past : (d n m : ℕ) → m ≡ word_of f n → ((k : ℕ) → n ≤ k → k < n + d → f k ≡ false) → m ≡ word_of f (n + d)
+  word_past zero n m e off = let at : n + 0 ≡ n = omega arith in rw at e
+  word_past (suc d) n m e off =
+      let at : n + suc d ≡ (n + d) + 1 = omega arith in
+      rw at (word_keep (n + d) m (word_past d n m e (λ k l h. off k l (omega arith))) (off (n + d) (omega arith) (omega arith)))
+
+  pub word_on : (n j m : ℕ) → n ≤ j → m ≡ word_of f n → ((k : ℕ) → n ≤ k → k < j → f k ≡ false) → m ≡ word_of f j
+  word_on n j m h e off =
+      let at : j ≡ n + (j - n) = omega arith in
+      rw at (word_past (j - n) n m e (λ k l u. off k l (omega arith)))
+
+-- who is in a set without those of another
+pub without_has : (set out i : ℕ) → out < 2 ^ 32 → i < 32 → has (bit_and set (bit_not w32 out)) i ≡ (has set i && not (has out i))
+without_has set out i low h =
+    bit_without ((set / 2 ^ i) % 2) ((out / 2 ^ i) % 2) (bit_at (bit_and set (bit_not w32 out)) i) (omega arith) (omega arith) (bit_at_and set (bit_not w32 out) i ∙ ap (min (bit_at set i)) (bit_at_not w32 out i low h))
 
 pub word_same : (f g : ℕ → Bool) (n : ℕ) → ((i : ℕ) → i < n → f i ≡ g i) → word_of f n ≡ word_of g n
 unfolding word_of

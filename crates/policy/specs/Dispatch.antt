@@ -53,6 +53,7 @@ ahead_of le (Some a) j k i = stands_before le a j k i
 abbrev pub count_ahead : {K : Type 0} → (K → K → Bool) → (ℕ → Option K) → K → ℕ → ℕ
 count_ahead le jobs k i = count_below 32 (λ j. ahead_of le (jobs j) j k i)
 
+-- the same of the key at i: there is a job, and fewer than m active jobs stand before it
 abbrev pub runs_at : {K : Type 0} → (K → K → Bool) → (ℕ → Option K) → (m i : ℕ) → Option K → Bool
 runs_at le jobs m i None = false
 runs_at le jobs m i (Some k) = nat_lt (count_ahead le jobs k i) m

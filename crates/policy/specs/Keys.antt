@@ -8,6 +8,10 @@ use Rattle.policy.specs.Order.{grouped}
 abbrev pub time_to_deadline : Entry → ℕ → ℤ
 time_to_deadline e age = pos e.deadline -ℤ pos age
 
+-- Rank: the task's rank, at any age
+abbrev pub rank_of : Entry → ℕ → ℕ
+rank_of e age = e.rank
+
 -- a task is heavy at the threshold a / b: C × b > a × T
 abbrev pub is_heavy : ℕ → ℕ → Entry → Bool
 is_heavy a b e = nat_lt (a * e.period) (e.runtime * b)

@@ -1,3 +1,4 @@
+-- Policies, and the jobs of a slot, in the order in which to read them; the last three are proofs that a type and two impls name.
 pub mod Order
 pub mod Keys
 pub mod Plans
@@ -6,7 +7,7 @@ pub mod Sets
 pub mod Members
 pub mod Releases
 pub mod Dispatch
+pub mod Slots
 pub mod Settled
 pub mod Groups
 pub mod Deadlines
-pub mod Slots

@@ -4,19 +4,22 @@ use Rattle.schedule.specs.Plan.{Plan}
 use Rattle.task.specs.declared.entry.Entry.{Entry}
 use Rattle.policy.specs.Order.{stands_before}
 
--- the figures of a place; of an empty one, such that nothing ever comes of it
+-- The figures of a place; of an empty one, such that nothing ever comes of it: the offset ..
 abbrev pub offset_of : Option Entry → ℕ
 offset_of None = 0
 offset_of (Some e) = e.offset
 
+-- .. its running time ..
 abbrev pub time_of : Option Entry → ℕ
 time_of None = 0
 time_of (Some e) = e.runtime
 
+-- .. its deadline ..
 abbrev pub deadline_of : Option Entry → ℕ
 deadline_of None = 0
 deadline_of (Some e) = e.deadline
 
+-- .. and its period
 abbrev pub period_of : Option Entry → ℕ
 period_of None = 1
 period_of (Some e) = e.period

@@ -1,6 +1,7 @@
 -- Sets of tasks as words, and what is left of each job as a list.
 use Rattle.std.specs.Prelude.{ℕ, zero, suc, ◌+◌, ◌*◌, ◌^◌, Bool, true, false, List, slice_index}
 
+-- 1 where a test is passed, and 0 where it is not
 abbrev pub bit : Bool → ℕ
 bit true = 1
 bit false = 0

@@ -1,4 +1,4 @@
-ghost use Rattle.std.specs.Prelude.{◌≡◌, ℕ, ◌<◌, true, Decides, min, None, Some, MatchOption, count_ones, nat_lt, slice_index};
+ghost use Rattle.std.specs.Prelude.{◌≡◌, ◌<◌, true, Decides, min, None, Some, MatchOption, count_ones, nat_lt, slice_index};
 ghost use Rattle.schedule.specs.Counting.{count_below};
 ghost use Rattle.schedule.specs.Schedule.{active, has_cpu};
 ghost use Rattle.task.specs.Tables.{entry_at};
@@ -6,7 +6,7 @@ ghost use Rattle.policy.specs.Dispatch.{since, count_ahead, runs_of, is_active, 
 ghost use Rattle.policy.specs.Order.{stands_before};
 ghost use Rattle.policy.specs.Plans.{plan_of};
 ghost use Rattle.policy.specs.Sets.{left_of, word_of};
-ghost use Rattle.policy.specs.Slots.{keys_of, Told, AreTold, FewOrSteady, Runs};
+ghost use Rattle.policy.specs.Slots.{keys_of, AreTold, FewOrSteady, Runs};
 
 use crate::policy::Policy;
 use crate::release::latest_releases;

@@ -1,6 +1,5 @@
-ghost use Rattle.std.specs.Prelude.{◌≡◌, ◌≤◌, true, false, ◌||◌, MatchResult};
+ghost use Rattle.std.specs.Prelude.{◌≡◌, ◌≤◌, MatchResult};
 ghost use Rattle.task.specs.declared.refusal.Refusal.TheVariants.{BadThreshold};
-ghost use Rattle.policy.specs.Order.{grouped};
 
 use task::refusal::Refusal;
 

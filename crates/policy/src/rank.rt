@@ -1,4 +1,5 @@
 ghost use Rattle.std.specs.Prelude.{◌≡◌, true, refl, nat_le};
+ghost use Rattle.policy.specs.Keys.{rank_of};
 ghost use Rattle.std.proofs.Common.{rules};
 
 use crate::policy::Policy;
@@ -11,7 +12,7 @@ pub struct Rank;
 impl Policy for Rank {
     type Key = u8;
 
-    ghost keyed = { λ _ e _. e.rank };
+    ghost keyed = { λ _. rank_of };
 
     ghost precedes = { λ _ a b. nat_le a b };
 

@@ -48,7 +48,7 @@ impl Iterator for Members {
 
     fn next(&mut self) -> Option<usize> {
         let i = next_in(self.rest, 0)?;
-        self.rest &= !(1 << i);
+        self.rest &= self.rest - 1;
         Some(i)
     }
 }

@@ -5,10 +5,10 @@ use Rattle.bench.specs.declared.verdict.Verdict.{Verdict}
 use Rattle.bench.specs.Lines.{verdict_line, fault_line}
 use Rattle.sheet.specs.Buffers.{Written, BeginsWith}
 use Rattle.sheet.proofs.Writing.{text_more, from_start}
-use Rattle.policy.specs.Keys.{time_to_deadline, heavy_key, heavy_first}
+use Rattle.policy.specs.Keys.{rank_of, time_to_deadline, heavy_key, heavy_first}
 use Rattle.report.specs.declared.unjudged.Unjudged.{Unjudged}
 use Rattle.report.specs.declared.unjudged.Unjudged.TheVariants.{Denied, Refused}
-use Rattle.report.specs.Reports.{rank_of, Report, Reports, VerdictsOfSheet, verdicts, fault, report_answer}
+use Rattle.report.specs.Reports.{Report, Reports, VerdictsOfSheet, verdicts, fault, report_answer}
 use lib.Signed.{le_z}
 use Rattle.report.proofs.Lining.{has_room}
 use Rattle.report.proofs.Single.{never_faulty}

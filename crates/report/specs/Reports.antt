@@ -1,9 +1,8 @@
 -- What is printed for the bytes of a sheet: its verdicts under four policies, a line each, or one line for its fault.
 use Rattle.std.specs.Prelude.{◌≡◌, ℕ, cond, List, ◌++◌, length, Some, None, Ok, Err, Option, Result, int_le, nat_le, nat_lt}
-use Rattle.task.specs.declared.entry.Entry.{Entry}
 use Rattle.task.specs.declared.refusal.Refusal.{Refusal}
 use Rattle.task.specs.declared.refusal.Refusal.TheVariants.{BufferTooShort}
-use Rattle.policy.specs.Keys.{time_to_deadline, heavy_key, heavy_first}
+use Rattle.policy.specs.Keys.{time_to_deadline, rank_of, heavy_key, heavy_first}
 use Rattle.bench.specs.declared.fault.Fault.{Fault}
 use Rattle.bench.specs.declared.verdict.Verdict.{Verdict}
 use Rattle.bench.specs.Lines.{verdict_line, fault_line}
@@ -11,10 +10,6 @@ use Rattle.sheet.specs.Buffers.{BeginsWith}
 use Rattle.report.specs.declared.unjudged.Unjudged.{Unjudged}
 use Rattle.report.specs.declared.unjudged.Unjudged.TheVariants.{Denied, Refused}
 use Rattle.report.specs.Prints.{VerdictOfSheet, Faulty}
-
--- the rank policy's key
-abbrev pub rank_of : Entry → ℕ → ℕ
-rank_of e age = e.rank
 
 -- the verdicts of a sheet under deadline, rank, heavy-first 1/2 over deadline, and heavy-first 1/2 over rank
 pub record VerdictsOfSheet (bytes : List ℕ) (d r hd hr : Verdict) : Type 0 where

@@ -2,7 +2,7 @@ use Rattle.std.proofs.Common.{leb, arith}
 use Rattle.std.proofs.lemmas.Result.{err_from_is_err_and}
 use lib.Signed.{le_z}
 use Rattle.policy.specs.Keys.{time_to_deadline, heavy_key, heavy_first}
-use Rattle.report.specs.Reports.{rank_of}
+use Rattle.policy.specs.Keys.{rank_of}
 use Rattle.report.proofs.Reporting.{fault_alone, judged_again, last_line}
 use Rattle.report.proofs.report.write_verdicts.Goals as goal
 
