@@ -15,7 +15,7 @@ use Rattle.policy.specs.Plans.{plan_of}
 use Rattle.trial.specs.declared.trial.Trial.{Trial}
 use Rattle.policy.proofs.Ranks.{plan_ranked}
 use Rattle.policy.proofs.Words.{word_ones}
-use Rattle.trial.specs.Judged.{LastSet}
+use Rattle.trial.specs.LastSet.{LastSet}
 use Rattle.trial.specs.Trials.{Fresh}
 use Rattle.trial.proofs.Tasks.{tasks_sound, tasks_small}
 use Rattle.trial.proofs.Standing.{Stands, still_running, set_now, missed_now, agreed_now, undecided_stands, never_that_late, fresh_stands}

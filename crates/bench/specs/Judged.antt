@@ -8,7 +8,7 @@ use Rattle.schedule.specs.Verdict as Theory
 use Rattle.task.specs.declared.entry.Entry.{Entry}
 use Rattle.task.specs.declared.refusal.Refusal.{Refusal}
 use Rattle.trial.specs.declared.trial.Trial.{Trial}
-use Rattle.trial.specs.Judged.{LastSet}
+use Rattle.trial.specs.LastSet.{LastSet}
 use Rattle.trial.specs.Trials.{Fresh}
 use Rattle.bench.specs.declared.mode.Mode.{Mode}
 use Rattle.bench.specs.declared.mode.Mode.TheVariants.{Running}

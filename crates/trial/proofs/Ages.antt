@@ -1,7 +1,7 @@
 -- From the latest release to the next: which instants are releases and deadlines.
-use Rattle.std.proofs.Common.{◌≡◌, ℕ, ◌+◌, ◌-◌, ◌%◌, ◌<◌, ◌≤◌, true, false, ◌&&◌, eqb, leb, Some, sym, ap, ◌∙◌, ⊎_elim, arith}
+use Rattle.std.proofs.Common.{◌≡◌, ℕ, ◌+◌, ◌-◌, ◌%◌, ◌<◌, ◌≤◌, true, false, eqb, leb, Some, sym, ap, ◌∙◌, ⊎_elim, arith}
 use native.Mathlib.Nat.{add-mod_right}
-use Rattle.std.proofs.lemmas.Bool.{cases_lt, cases_eq, cases_Bool, and_from, and_parts, and_right, le-leb, lt-leb, leb-true, eqb-true, eq-eqb, ne_eqb}
+use Rattle.std.proofs.lemmas.Bool.{cases_lt, cases_eq, cases_Bool, and_from, and_parts, and_right, le-leb, leb-true, eqb-true, eq-eqb, ne_eqb}
 use Rattle.task.specs.declared.entry.Entry.{Entry}
 use Rattle.policy.specs.Releases.{Released}
 use Rattle.policy.proofs.Since.{age_rises, past_whole}
@@ -35,16 +35,6 @@ module _ (e : Entry) (s b : ℕ) (r : Released e s b) where
   release_again = and_from (leb e.offset (b + e.period)) (eqb (((b + e.period) - e.offset) % e.period) 0) (le-leb e.offset (b + e.period) (omega (arith, r.begun))) (eq-eqb _ 0 whole_again)
 
   module _ (t : ℕ) (after : s < t) where
-    too_early : (u : ℕ) → t ≤ b → u < b → releases (Some e) u ≡ false
-    too_early u h l = ap (λ x. x && eqb ((u - e.offset) % e.period) 0) (lt-leb e.offset u (omega (arith, r.first (omega arith))))
-
-    pub release_up_to : t ≤ b → eqb t b ≡ releases (Some e) t
-    release_up_to h =
-        ⊎_elim
-        (λ (q : t ≡ b). eq-eqb t b q ∙ sym (ap (releases (Some e)) q ∙ release_there))
-        (λ (q : t ≡ b → ⊥). ne_eqb t b q ∙ sym (too_early t h (⊎_elim (λ (l : t < b). l) (λ (l : b ≤ t). absurd (q (omega arith))) (cases_lt t b))))
-        (cases_eq t b)
-
     pub release_past : b < t → t ≤ b + e.period → eqb (t - b) e.period ≡ releases (Some e) t
     release_past h l =
         ⊎_elim
@@ -56,13 +46,6 @@ module _ (e : Entry) (s b : ℕ) (r : Released e s b) where
         (cases_eq (t - b) e.period)
 
     module _ (some : 1 ≤ e.deadline) (fits : e.deadline ≤ e.period) where
-      pub due_up_to : t ≤ b → false ≡ is_due (Some e) t
-      due_up_to h =
-          ⊎_elim
-          (λ (l : t < e.deadline). sym (ap (λ x. x && releases (Some e) (t - e.deadline)) (lt-leb e.deadline t l)))
-          (λ (l : e.deadline ≤ t). sym (and_right (leb e.deadline t) (releases (Some e) (t - e.deadline)) (too_early (t - e.deadline) h (omega arith))))
-          (cases_lt t e.deadline)
-
       due_where : b < t → t ≤ b + e.period → is_due (Some e) t ≡ true → t - b ≡ e.deadline
       due_where h l d =
           let (late, there) = and_parts (leb e.deadline t) (releases (Some e) (t - e.deadline)) d in
@@ -84,13 +67,6 @@ module _ (e : Entry) (s b : ℕ) (r : Released e s b) where
           (λ (d : is_due (Some e) t ≡ false). ne_eqb (t - b) e.deadline q ∙ sym d)
           (cases_Bool (is_due (Some e) t)))
           (cases_eq (t - b) e.deadline)
-
-      pub calm_before : t < b → Calm (Some e) t
-      calm_before h =
-          record {
-            no_release = sym (release_up_to (omega arith)) ∙ ne_eqb t b (λ z. omega arith);
-            no_deadline = sym (due_up_to (omega arith));
-          }
 
       pub calm_between : b < t → t < b + e.period → (t - b ≡ e.deadline → ⊥) → Calm (Some e) t
       calm_between h l ne =

@@ -6,7 +6,7 @@ use Rattle.policy.specs.Sets.{left_of, word_of}
 use Rattle.policy.proofs.Words.{word_has}
 use Rattle.trial.specs.declared.trial.Trial.{Trial}
 use Rattle.trial.specs.Slots.{Passes, Marked}
-use Rattle.trial.specs.Trials.{NonePasses, Lowest, Equal, Moved, Between, Passed, Repeated}
+use Rattle.trial.specs.Trials.{NonePasses, Lowest, Equal, Moved, Between, Passed, Repeated, Undecided, here, on}
 
 -- the lowest member of the word of those that pass is the lowest that passes
 pub none_passes : (test : ℕ → Bool) (word : ℕ) → word ≡ word_of test 32 → NextIn word 0 32 → NonePasses test
@@ -14,6 +14,11 @@ none_passes test word e n i h = sym (word_has test word i e h) ∙ n.skipped i (
 
 pub lowest_passes : (test : ℕ → Bool) (word i : ℕ) → word ≡ word_of test 32 → NextIn word 0 i → i < 32 → Lowest test i
 lowest_passes test word i e n h = (h, sym (word_has test word i e h) ∙ n.member h, λ j l. sym (word_has test word j e (omega arith)) ∙ n.skipped j (omega arith) l)
+
+-- after n undecided slots
+pub undecided_at : (p : Plan) (a : Trial) {b : Trial} {n : ℕ} → Undecided p a n b → b.instant ≡ a.instant + n
+undecided_at p a here = omega arith
+undecided_at p a (on ch mv told) = omega (arith, undecided_at p a ch, mv.later)
 
 module _ (p : Plan) (a : Trial) (missed : ℕ) (b : Trial) (s : Passes p a missed b) where
   pub between_now : (b.instant ≡ b.next → ⊥) → Between a b

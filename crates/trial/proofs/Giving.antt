@@ -31,7 +31,3 @@ given_on P was now i j h g p = (
       (cases_lt k i),
   λ k l. g.2 k (omega arith),
 )
-
--- one value that stays
-pub given_kept : (P : ℕ → ℕ → Type 0) (was now : List ℕ) (i : ℕ) → Given P was now i → P i (get_or now i 0) → Given P was now (i + 1)
-given_kept P was now i g p = (g.0, below_more _ _ g.1 p, λ k l. g.2 k (omega arith))

@@ -1,7 +1,8 @@
 -- The jobs that run in a slot run in the next one, too, where nothing happens in between.
-use Rattle.std.proofs.Common.{◌≡◌, ℕ, ◌+◌, ◌-◌, ◌*◌, ◌/◌, ◌%◌, ◌<◌, ◌≤◌, Bool, true, false, cond, ◌⊎◌, not, ◌&&◌, ◌||◌, eqb, leb, ltb, List, get_or, is_some, Some, None, Option, sym, refl, ap, ap₂, ◌∙◌, inl, inr, ⊎_elim, arith}
+use Rattle.std.proofs.Common.{◌≡◌, ◌≢◌, ℕ, ◌+◌, ◌-◌, ◌*◌, ◌/◌, ◌%◌, ◌<◌, ◌≤◌, Bool, true, false, cond, ◌⊎◌, not, ◌&&◌, ◌||◌, eqb, leb, ltb, List, get_or, is_some, Some, None, Option, sym, refl, ap, ap₂, ◌∙◌, inl, inr, ⊎_elim, arith}
 use lib.Count.{ones}
-use Rattle.std.proofs.lemmas.Bool.{both_ways, cases_Bool, cases_lt, and_parts, and_from, le-leb, lt-ltb, eq-eqb}
+use Rattle.std.proofs.lemmas.Bool.{both_ways, ne_eqb, cases_Bool, cases_eq, cases_lt, and_parts, and_from, le-leb, lt-ltb, eq-eqb}
+use Rattle.std.proofs.Math.Bool.{and-true, and-false}
 use Rattle.std.proofs.lemmas.Nat.{div-add-mod', mod_below, mod-mul-add}
 use Rattle.schedule.specs.Counting.{count_below}
 use Rattle.schedule.specs.Plan.{Plan}
@@ -11,6 +12,7 @@ use Rattle.task.specs.declared.entry.Entry.{Entry}
 use Rattle.task.specs.declared.task.Task.{Task}
 use Rattle.task.specs.Tables.{entry_of, entry_at}
 use Rattle.policy.specs.Dispatch.{is_active, Begun}
+use Rattle.policy.specs.Members.{has}
 use Rattle.policy.specs.Order.{SteadyKeys}
 use Rattle.policy.specs.Plans.{plan_of, offset_of, period_of, goes_before}
 use Rattle.policy.specs.Releases.{Latest}
@@ -18,8 +20,8 @@ use Rattle.policy.specs.Sets.{left_of, word_of}
 use Rattle.policy.proofs.Running.{all_run, idle_part}
 use Rattle.policy.proofs.Since.{age_rises}
 use Rattle.policy.proofs.Words.{word_has, word_ones}
-use Rattle.trial.specs.Places.{releases, Calm}
-use Rattle.trial.specs.Slots.{Steady, Lasts}
+use Rattle.trial.specs.Places.{releases}
+use Rattle.trial.specs.Slots.{worked, is_finished, Steady, Lasts}
 
 -- 1. a slot later a released job is a slot older, unless the next is released
 whole_next : (x T : ℕ) → 0 < T → x % T + 1 ≡ T → (x + 1) % T ≡ 0
@@ -36,17 +38,31 @@ age_next x T p ne =
     (λ (l : T ≤ x % T + 1). absurd (ne (whole_next x T p (omega arith))))
     (cases_lt (x % T + 1) T)
 
-older_by : (o : Option Task) (t : ℕ) → is_some (entry_of o) ≡ true → offset_of (entry_of o) ≤ t → Calm (entry_of o) (t + 1)
+older_by : (o : Option Task) (t : ℕ) → is_some (entry_of o) ≡ true → offset_of (entry_of o) ≤ t → (is_some (entry_of o) && releases (entry_of o) (t + 1)) ≡ false
     → ((t + 1) - offset_of (entry_of o)) % period_of (entry_of o) ≡ (t - offset_of (entry_of o)) % period_of (entry_of o) + 1
-older_by None t some h c = absurd (cc)
-older_by (Some k) t some h c =
+older_by None t some h none = absurd (cc)
+older_by (Some k) t some h none =
     let e = k.figures in
     let up : (t + 1) - e.offset ≡ (t - e.offset) + 1 = omega arith in
     let ne : ((t - e.offset) + 1) % e.period ≡ 0 → ⊥ =
-    λ z. both_ways (releases (Some e) (t + 1)) c.no_release (and_from (leb e.offset (t + 1)) (eqb (((t + 1) - e.offset) % e.period) 0) (le-leb e.offset (t + 1) (omega arith)) (eq-eqb _ 0 (ap (λ x. x % e.period) up ∙ z))) in
+    λ z. both_ways (releases (Some e) (t + 1)) none (and_from (leb e.offset (t + 1)) (eqb (((t + 1) - e.offset) % e.period) 0) (le-leb e.offset (t + 1) (omega arith)) (eq-eqb _ 0 (ap (λ x. x % e.period) up ∙ z))) in
     ap (λ x. x % e.period) up ∙ age_next (t - e.offset) e.period (omega (arith, k.runs, k.fits, k.constrained)) ne
 
--- 2. the order of a steady policy's jobs
+-- 2. the jobs that finish in a slot
+left_after : (s r : Bool) (x y : ℕ) → y ≡ cond r (x - 1) x → ((s && ltb 0 x) && not (r && eqb y 0)) ≡ (s && ltb 0 y)
+left_after false r x y e = refl
+left_after true false x y e = ap (λ b. b && true) (ap (ltb 0) (sym e)) ∙ and-true (ltb 0 y)
+left_after true true x y e =
+    ⊎_elim
+    (λ (z : y ≡ 0). rw z (and-false (ltb 0 x)))
+    (λ (ne : y ≢ 0). rw (ne_eqb y 0 ne, lt-ltb 0 y (omega arith), lt-ltb 0 x (omega arith)) refl)
+    (cases_eq y 0)
+
+module _ (ran : ℕ) (left end : List ℕ) (is : (i : ℕ) → i < 32 → left_of end i ≡ worked ran left i) where
+  pub active_after : (at : ℕ → Option Entry) (i : ℕ) → i < 32 → (is_active at left i && not (is_finished ran end i)) ≡ is_active at end i
+  active_after at i h = left_after (is_some (at i)) (has ran i) (left_of left i) (left_of end i) (is i h)
+
+-- 3. the order of a steady policy's jobs
 module _ {K : Type 0} (keyed : Entry → ℕ → K) (le : K → K → Bool) where
   goes_steady : SteadyKeys keyed le → (o q : Option Entry) (i a j b : ℕ) → goes_before keyed le o i (a + 1) q j (b + 1) ≡ goes_before keyed le o i a q j b
   goes_steady s None q i a j b = refl
@@ -83,7 +99,7 @@ module _ {K : Type 0} (keyed : Entry → ℕ → K) (le : K → K → Bool) wher
         ))
         why
 
-    -- 3. a slot after which nothing happens, and in which no job finishes
+    -- 4. a slot after which nothing happens, and in which no job finishes
     module _ (left end : List ℕ) (m t : ℕ)
         (is : (i : ℕ) → i < 32 → left_of end i ≡ slot plan m t (left_of left) i)
         (some : (i : ℕ) → i < 32 → has_cpu plan m t (left_of left) i ≡ true → 0 < left_of end i) where
@@ -100,10 +116,10 @@ module _ {K : Type 0} (keyed : Entry → ℕ → K) (le : K → K → Bool) wher
       pub same_active : (i : ℕ) → i < 32 → is_active at end i ≡ is_active at left i
       same_active i h = ap (λ b. is_some (at i) && b) (same_some i h)
 
-      module _ (calm : (i : ℕ) → i < 32 → Calm (at i) (t + 1)) (l : Lasts plan m t (left_of left)) where
+      module _ (none : (i : ℕ) → i < 32 → (is_some (at i) && releases (at i) (t + 1)) ≡ false) (l : Lasts plan m t (left_of left)) where
         module _ (steady : Steady plan) (begun : (i : ℕ) → i < 32 → active plan (left_of left) i ≡ true → offset_of (at i) ≤ t) where
           older : (i : ℕ) → i < 32 → is_active at left i ≡ true → age plan i (t + 1) ≡ age plan i t + 1
-          older i h on = older_by (get_or tasks i None) t (and_parts (is_some (at i)) (ltb 0 (left_of left i)) on).0 (begun i h on) (calm i h)
+          older i h on = older_by (get_or tasks i None) t (and_parts (is_some (at i)) (ltb 0 (left_of left i)) on).0 (begun i h on) (none i h)
 
           same_ahead : (i j : ℕ) → i < 32 → j < 32 → is_active at left i ≡ true → stands_ahead plan (t + 1) (left_of end) i j ≡ stands_ahead plan t (left_of left) i j
           same_ahead i j h k on =

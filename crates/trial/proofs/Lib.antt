@@ -4,7 +4,7 @@ pub mod Periods
 pub mod Slotwise
 pub mod Watching
 pub mod Giving
-pub mod Happening
+pub mod Grouping
 pub mod Lasting
 pub mod Boundaries
 pub mod Tasks

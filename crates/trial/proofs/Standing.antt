@@ -17,7 +17,7 @@ use Rattle.policy.proofs.Words.{word_same}
 use Rattle.trial.specs.declared.trial.Trial.{Trial}
 use Rattle.trial.specs.declared.trial.Outcome.TheVariants.{Ran, Missed as Miss, Agreed}
 use Rattle.trial.specs.Places.{opens}
-use Rattle.trial.specs.Judged.{LastSet}
+use Rattle.trial.specs.LastSet.{LastSet}
 use Rattle.trial.specs.Trials.{NonePasses, Equal, Fresh, after_slot, missing, Moved, Passed, Between, CameTo, Undecided, here, on}
 
 module _ {K : Type 0} (keyed : Entry → ℕ → K) (le : K → K → Bool) (at : ℕ → Option Entry) (sound : Sound (plan_of keyed le at)) (m : ℕ) where

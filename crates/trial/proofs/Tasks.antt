@@ -1,6 +1,6 @@
 -- The plan of a table of tasks is sound, since every task keeps its bounds, and its jobs need little time together.
-use Rattle.std.proofs.Common.{◌≡◌, ℕ, ◌≤◌, Bool, true, false, cond, List, get_or, is_some, Some, None, Option, sym, refl, arith}
-use Rattle.std.proofs.lemmas.Bool.{both_ways}
+use Rattle.std.proofs.Common.{◌≡◌, ℕ, ◌≤◌, Bool, true, cond, List, get_or, is_some, Some, None, Option, arith}
+use Rattle.std.proofs.lemmas.Bool.{false≢true}
 use Rattle.schedule.specs.Plan.{Sound, whole_time}
 use Rattle.schedule.proofs.Sums.{sum_bounded}
 use Rattle.task.specs.declared.entry.Entry.{Entry}
@@ -8,19 +8,16 @@ use Rattle.task.specs.declared.task.Task.{Task}
 use Rattle.task.specs.Tables.{entry_of, entry_at}
 use Rattle.policy.specs.Plans.{plan_of, time_of, deadline_of, period_of}
 
-absent : {A : Type 0} → false ≡ true → A
-absent e = absurd (both_ways true (sym e) refl)
-
 some_time : (o : Option Task) → is_some (entry_of o) ≡ true → 1 ≤ time_of (entry_of o)
-some_time None e = absent e
+some_time None e = absurd (false≢true e)
 some_time (Some t) e = t.runs
 
 time_fits : (o : Option Task) → is_some (entry_of o) ≡ true → time_of (entry_of o) ≤ deadline_of (entry_of o)
-time_fits None e = absent e
+time_fits None e = absurd (false≢true e)
 time_fits (Some t) e = t.fits
 
 one_job : (o : Option Task) → is_some (entry_of o) ≡ true → deadline_of (entry_of o) ≤ period_of (entry_of o)
-one_job None e = absent e
+one_job None e = absurd (false≢true e)
 one_job (Some t) e = t.constrained
 
 small : (o : Option Task) → cond (is_some (entry_of o)) (time_of (entry_of o)) 0 ≤ 60000

@@ -1,19 +1,19 @@
 -- What a watch says goes on through a calm instant, and where the trial stays.
-use Rattle.std.proofs.Common.{◌≡◌, ℕ, zero, suc, ◌+◌, ◌-◌, ◌<◌, ◌≤◌, List, length, get_or, Some, None, Option, sym, ap, ◌∙◌, subst, ⊎_elim, arith}
+use Rattle.std.proofs.Common.{◌≡◌, ℕ, zero, suc, ◌+◌, ◌-◌, ◌/◌, ◌<◌, ◌≤◌, true, List, get_or, Some, None, Option, sym, refl, ap, ◌∙◌, subst, ⊎_elim, arith}
 use Rattle.std.proofs.lemmas.Bool.{both_ways, cases_lt}
-use Rattle.std.proofs.lemmas.List.{get_or_default}
 use Rattle.schedule.specs.Plan.{Plan}
 use Rattle.schedule.specs.Schedule.{has_cpu}
 use Rattle.task.specs.declared.entry.Entry.{Entry}
 use Rattle.task.specs.declared.task.Task.{Task}
-use Rattle.task.specs.Tables.{entry_of, entry_at}
+use Rattle.task.specs.Tables.{entry_at}
 use Rattle.policy.specs.Dispatch.{is_active}
 use Rattle.policy.specs.Releases.{Released, Latest}
 use Rattle.policy.specs.Sets.{left_of, word_of}
 use Rattle.trial.specs.declared.trial.Trial.{Trial}
 use Rattle.trial.specs.declared.watch.Watch.{Watch}
+use Rattle.trial.specs.Calendars.{InGroup}
 use Rattle.trial.specs.Places.{releases, Calm}
-use Rattle.trial.specs.Slots.{Lasts, RunsOn, Watched, Marked}
+use Rattle.trial.specs.Slots.{Lasts, RunsOn, Watched, Chosen, Marked}
 use Rattle.trial.proofs.Ages.{release_again}
 
 goes_on : (e : Entry) (t b : ℕ) → Released e t b → Calm (Some e) (t + 1) → Released e (t + 1) b
@@ -48,23 +48,30 @@ stays_until o s t b h r c =
     let L : ℕ → Type 0 = λ t. Latest o t b in
     subst L at (stays_long o s b (t - s) r (λ v l m. c v l (omega arith)))
 
+-- a watch waits for no event that comes later than a place's
+group_of : (i : ℕ) → InGroup (i / 8) i
+group_of i = (omega arith, omega arith)
+
+pub calm_before : (w : Watch) (i : ℕ) → i < 32 → w.calm ≤ get_or w.calendar.events i 0
+calm_before w i h = let g : i / 8 < 4 = omega arith in omega (arith, w.soonest (i / 8) g, w.grouped (i / 8) g i (group_of i))
+
 -- the latest releases that a watch has are so still before the next event
-pub latest_before : (w : Watch) (i t : ℕ) → i < 32 → w.since ≤ t → t < w.calm → Latest (entry_at w.tasks.now i) t (get_or w.released i 0)
-latest_before w i t h l m = stays_until (entry_at w.tasks.now i) w.since t (get_or w.released i 0) l (w.latest i h) (λ v p q. w.calm_is i h v p (omega arith))
+pub latest_before : (w : Watch) (i t : ℕ) → i < 32 → w.since ≤ t → t < w.calm → Latest (entry_at w.tasks.now i) t (get_or w.calendar.released i 0)
+latest_before w i t h l m = stays_until (entry_at w.tasks.now i) w.since t (get_or w.calendar.released i 0) l (w.latest i h) (λ v p q. w.calm_is i h v p (omega (arith, calm_before w i h)))
 
-pub released_before : (w : Watch) (i : ℕ) (e : Entry) → i < 32 → entry_at w.tasks.now i ≡ Some e → Released e (w.calm - 1) (get_or w.released i 0)
-released_before w i e h is =
-    let L : Option Entry → Type 0 = λ o. Latest o (w.calm - 1) (get_or w.released i 0) in
-    subst L is (latest_before w i (w.calm - 1) h (omega (arith, w.onward)) (omega (arith, w.onward)))
+-- where the jobs that ran run on, none need be chosen
+pub unchosen : (p : Plan) (tasks : List (Option Task)) (a : Trial) (w : Watch) → Watched p tasks a w → w.lasts ≡ true → Chosen p a w a w
+unchosen p tasks a w s l =
+    let on = s.runs_on l in
+    record {
+      trial = refl;
+      watch = record { instants = record { tasks_kept = refl; released_kept = refl; since_kept = refl; calm_kept = refl }; active_kept = refl };
+      ran_is = on.ran_is;
+      lasts = λ _. on.lasts;
+    }
 
-pub none_released : (w : Watch) (i : ℕ) → i < 32 → entry_at w.tasks.now i ≡ None → get_or w.released i 0 ≡ 0
-none_released w i h is =
-    let L : Option Entry → Type 0 = λ o. Latest o w.since (get_or w.released i 0) in
-    subst L is (w.latest i h)
-
--- the entry of what was read in a place
-pub entry_read : (tasks : List (Option Task)) (i : ℕ) (d o : Option Task) → i < length tasks → get_or tasks i d ≡ o → entry_at tasks i ≡ entry_of o
-entry_read tasks i d o h e = ap entry_of (get_or_default tasks i None d h ∙ e)
+pub chosen_same : (p : Plan) (a : Trial) (v : Watch) (b d : Trial) (w u : Watch) → Chosen p a v d u → b ≡ d → w ≡ u → Chosen p a v b w
+chosen_same p a v b d w u ch e f = subst (λ (y : Trial). Chosen p a v y w) (sym e) (subst (Chosen p a v d) (sym f) ch)
 
 -- where the trial stays, its jobs run on
 still_runs : (p : Plan) (a b : Trial) → RunsOn p a → Marked a b → RunsOn p b
@@ -87,5 +94,5 @@ watched_still p tasks a b w s k =
       begun = omega (arith, s.begun, k.instant_kept);
       not_over = omega (arith, s.not_over, k.instant_kept);
       runs_on = λ h. still_runs p a b (s.runs_on h) k;
-      active_is = s.active_is ∙ ap (λ xs. word_of (is_active (entry_at tasks) xs) 32) (sym k.left_kept);
+      active_is = λ i h. s.active_is i h ∙ ap (λ xs. is_active (entry_at tasks) xs i) (sym k.left_kept);
     }

@@ -1,5 +1,5 @@
 -- The parts of a slot: rule 3, the new instant, and the boundary that it may be.
-use Rattle.std.specs.Prelude.{◌≡◌, ℕ, ◌+◌, ◌-◌, ◌<◌, ◌≤◌, true, cond, ◌⊎◌, List, Option}
+use Rattle.std.specs.Prelude.{◌≡◌, ℕ, ◌+◌, ◌-◌, ◌<◌, ◌≤◌, Bool, true, cond, ◌⊎◌, ◌&&◌, ◌==◌, List, Option}
 use Rattle.schedule.specs.Plan.{Plan}
 use Rattle.schedule.specs.Counting.{count_below}
 use Rattle.schedule.specs.Schedule.{active, has_cpu}
@@ -15,6 +15,10 @@ use Rattle.trial.specs.Trials.{after_slot, missing, Moved, SameBoundaries}
 -- what is left of task i's job, where each job of the set `ran` has lost 1
 abbrev pub worked : (ran : ℕ) → List ℕ → ℕ → ℕ
 worked ran left i = cond (has ran i) (left_of left i - 1) (left_of left i)
+
+-- task i's job is of the set `ran` and has nothing left
+abbrev pub is_finished : (ran : ℕ) → List ℕ → ℕ → Bool
+is_finished ran left i = has ran i && (left_of left i == 0)
 
 -- the order of the plan's jobs stays as it is while they grow older
 abbrev pub Steady : Plan → Type 0
@@ -38,7 +42,7 @@ pub record Watched (p : Plan) (tasks : List (Option Task)) (a : Trial) (w : Watc
   pub tasks_are : w.tasks.now ≡ tasks
   pub begun : w.since ≤ a.instant
   pub not_over : a.instant < w.calm
-  pub active_is : w.active ≡ word_of (is_active (entry_at tasks) a.left) 32
+  pub active_is : (i : ℕ) → i < 32 → has w.calendar.active i ≡ is_active (entry_at tasks) a.left i
   pub runs_on : w.lasts ≡ true → RunsOn p a
 
 -- the trial with another set of the tasks that ran
@@ -48,14 +52,14 @@ with_ran a ran = record { cpus = a.cpus; start = a.start; span = a.span; instant
 -- what a watch knows of its instants is as it was
 pub record SameInstants (v w : Watch) : Type 0 where
   pub tasks_kept : w.tasks.now ≡ v.tasks.now
-  pub released_kept : w.released ≡ v.released
+  pub released_kept : w.calendar.released ≡ v.calendar.released
   pub since_kept : w.since ≡ v.since
   pub calm_kept : w.calm ≡ v.calm
 
 -- and so are the active jobs
 pub record SameButLasts (v w : Watch) : Type 0 where
   pub instants : SameInstants v w
-  pub active_kept : w.active ≡ v.active
+  pub active_kept : w.calendar.active ≡ v.calendar.active
 
 -- b is a with the jobs that run in the slot from its instant, and w is v; where w says that they run on, there is a reason
 pub record Chosen (p : Plan) (a : Trial) (v : Watch) (b : Trial) (w : Watch) : Type 0 where

@@ -1,4 +1,4 @@
-ghost use Rattle.std.specs.Prelude.{ℕ, ◌-◌, ◌<◌, ◌≤◌};
+ghost use Rattle.std.specs.Prelude.{◌-◌, ◌<◌, ◌≤◌};
 ghost use Rattle.task.specs.Tables.{entry_of};
 ghost use Rattle.policy.specs.Releases.{Latest};
 ghost use Rattle.trial.specs.Arriving.{Arrives};
@@ -12,8 +12,12 @@ use task::task::Task;
 pub(crate) struct Arrival {
     /// Whether the place's job misses its deadline.
     pub(crate) late: bool,
+    /// Whether a job is released.
+    pub(crate) fresh: bool,
     /// What is left of its job then.
     pub(crate) left: u16,
+    /// Whether its job is active then.
+    pub(crate) active: bool,
     /// The instant that the age of its job counts from.
     pub(crate) released: u64,
     /// The next event.
@@ -35,16 +39,21 @@ pub(crate) fn arrive_at(place: &Option<Task>, released: u64, instant: u64, left:
                 instant,
             };
             let renewed = turn.renewed();
+            let opened = turn.opens(left);
             Arrival {
                 late: turn.misses(left),
-                left: turn.opens(left),
+                fresh: turn.is_release(),
+                left: opened,
+                active: opened > 0,
                 released: renewed,
                 event: next_of(task, renewed, instant),
             }
         }
         None => Arrival {
             late: false,
+            fresh: false,
             left,
+            active: false,
             released,
             event: u64::MAX,
         },

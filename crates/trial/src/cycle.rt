@@ -1,4 +1,4 @@
-ghost use Rattle.std.specs.Prelude.{◌≡◌, ℕ, ◌<◌, ◌≤◌, Bool, cond, is_some, Some, None};
+ghost use Rattle.std.specs.Prelude.{◌≡◌, ◌<◌, ◌≤◌, is_some, Some, None};
 ghost use Rattle.schedule.specs.Counting.{count_below};
 ghost use Rattle.schedule.specs.Hyperperiod.{gcd as greatest_divisor, lcm as least_multiple};
 ghost use Rattle.task.specs.Tables.{entry_of, entry_at};

@@ -2,8 +2,12 @@
 
 #![tactic(auto)]
 
+/// The set of the active jobs.
+pub mod active;
 /// What an event makes of a place.
 pub mod arriving;
+/// What is kept of each place from event to event.
+pub mod calendar;
 /// The largest offset and the hyperperiod of a table.
 pub mod cycle;
 /// The next event of a task.

@@ -1,4 +1,4 @@
-ghost use Rattle.std.specs.Prelude.{◌≡◌, ℕ, ◌-◌, ◌<◌, Some};
+ghost use Rattle.std.specs.Prelude.{◌≡◌, ◌-◌, ◌<◌, Some};
 ghost use Rattle.policy.specs.Releases.{Released};
 ghost use Rattle.trial.specs.Places.{releases, is_due, opens, misses};
 
@@ -7,8 +7,11 @@ use task::task::Task;
 /// A task at an instant, and its latest release before then, or its offset where it had released no job.
 #[derive(Clone, Copy)]
 pub(crate) struct Turn<'a> {
+    /// The task.
     pub(crate) task: &'a Task,
+    /// Its latest release before the instant.
     pub(crate) released: u64,
+    /// The instant.
     pub(crate) instant: u64,
     ghost later: { 0 < instant },
     ghost latest: { Released task.now.figures (instant - 1) released },
@@ -16,7 +19,7 @@ pub(crate) struct Turn<'a> {
 
 impl<'a> Turn<'a> {
     /// Whether a job of the task is released.
-    fn is_release(&self) -> bool
+    pub(crate) fn is_release(&self) -> bool
         ensures { result ≡ releases (Some self.now.task.now.figures) self.now.instant }
     {
         if self.instant <= self.released {

@@ -1,17 +1,17 @@
-ghost use Rattle.std.specs.Prelude.{◌≡◌, ◌<◌, ◌≤◌, true, Decides};
+ghost use Rattle.std.specs.Prelude.{◌≡◌, ℕ, ◌<◌, ◌≤◌, true, Decides};
 ghost use Rattle.task.specs.Tables.{entry_at};
 ghost use Rattle.policy.specs.Plans.{plan_of};
 ghost use Rattle.policy.specs.Dispatch.{is_active};
-ghost use Rattle.policy.specs.Sets.{word_of};
+ghost use Rattle.policy.specs.Members.{has};
 ghost use Rattle.trial.specs.Trials.{Equal, Runs};
 ghost use Rattle.trial.specs.Slots.{Chosen, SameInstants, NoneFinished, Watched, Ticked, Passes, Marked};
 
+use crate::active::finished_jobs;
+use crate::calendar::Calendar;
 use crate::trial::{Outcome, Trial};
 use crate::watch::Watch;
 use crate::working::work;
-use policy::dispatch::active_set;
 use policy::policy::Policy;
-use policy::release::latest_releases;
 use policy::slot::Slot;
 use policy::walk::members_of;
 use task::task::Task;
@@ -28,8 +28,8 @@ impl Trial {
         let slot = Slot {
             policy,
             tasks: watch.tasks,
-            released: &watch.released,
-            jobs: watch.active,
+            released: &watch.calendar.released,
+            jobs: watch.active(),
             instant: self.instant,
             cpus: self.cpus,
         };
@@ -43,14 +43,14 @@ impl Trial {
         requires watched { Watched (plan_of (P.Policy.keyed policy.now) (P.Policy.precedes policy.now) (entry_at watch.old.tasks.now)) watch.old.tasks.now self.old watch.old }
         ensures ticked { Ticked (plan_of (P.Policy.keyed policy.now) (P.Policy.precedes policy.now) (entry_at watch.old.tasks.now)) self.old self.new }
         ensures watch { SameInstants watch.old watch.new }
-        ensures active { watch.new.active ≡ word_of (is_active (entry_at watch.old.tasks.now) self.new.left) 32 }
+        ensures active { (i : ℕ) → i < 32 → has watch.new.calendar.active i ≡ is_active (entry_at watch.old.tasks.now) self.new.left i }
         ensures lasts { watch.new.lasts ≡ true → NoneFinished (plan_of (P.Policy.keyed policy.now) (P.Policy.precedes policy.now) (entry_at watch.old.tasks.now)) self.old self.new }
     {
         if !watch.lasts {
             self.choose(policy, watch);
         }
         if work(&mut self.left, self.ran) {
-            watch.active = active_set(watch.tasks, &self.left);
+            watch.calendar.active &= !finished_jobs(&self.left, self.ran);
             watch.lasts = false;
         }
         self.instant += 1;
@@ -68,8 +68,7 @@ impl Trial {
             return 0;
         }
         let missed = watch.arrive(&mut self.left);
-        watch.active = active_set(watch.tasks, &self.left);
-        watch.lasts = false;
+        watch.lasts = watch.lasts_on(missed);
         missed
     }
 
@@ -101,17 +100,12 @@ impl Trial {
         let mut outcome = Outcome::Ran;
         let mut watch = Watch {
             tasks,
-            released: latest_releases(tasks, self.instant),
-            events: [self.instant + 1; 32],
+            calendar: Calendar::new(tasks, self.instant, &self.left),
             since: self.instant,
             calm: self.instant + 1,
-            active: active_set(tasks, &self.left),
             lasts: false,
         };
-        'slots: for _ in 0..n {
-            if self.instant >= LAST_INSTANT {
-                break 'slots;
-            }
+        'slots: for _ in 0..(LAST_INSTANT - self.instant).min(u64::from(n)) {
             let missed = self.pass(policy, &mut watch);
             // stays: a listed form (docs/DECISIONS.md, Language forms), an inner loop that leaves the outer one by its label.
             for i in members_of(missed) {

@@ -1,6 +1,7 @@
 /// One trial of a table: where it stands, and what is left of each job there.
 #[derive(Clone, Copy)]
 pub struct Trial {
+    /// How many CPUs there are.
     pub(crate) cpus: u8,
     /// Omax, the instant of boundary 0.
     pub(crate) start: u32,

@@ -1,4 +1,4 @@
-use Rattle.std.proofs.Common.{◌≡◌, ℕ, ◌+◌, ◌-◌, ◌<◌, false, cond, List, ◌∷◌, subst, set, sym, refl, ap, ◌∙◌, arith}
+use Rattle.std.proofs.Common.{◌≡◌, ℕ, ◌≢◌, ◌+◌, ◌-◌, ◌<◌, false, cond, List, ◌∷◌, subst, set, sym, refl, ap, ◌∙◌, arith}
 use Rattle.policy.specs.Members.{has}
 use Rattle.policy.specs.Sets.{left_of}
 use Rattle.policy.proofs.Beginning.{EachTo, each_start, each_more}
@@ -26,14 +26,14 @@ module _ (ran : ℕ) (was : List ℕ) where
     here : Given Worked was xs i
     here = let G : List ℕ → Type 0 = λ r. Given Worked was xs (first r) in subst G left g
 
-    lost_one : (v : ℕ) → v ≡ left_of xs i - 1 → v ≡ worked ran was i
-    lost_one v e = e ∙ (ap (λ l. l - 1) (here.2 i (omega arith)) ∙ sym (ap (λ b. cond b (left_of was i - 1) (left_of was i)) now.member))
+    is : left_of xs i - 1 ≡ worked ran was i
+    is = ap (λ l. l - 1) (here.2 i (omega arith)) ∙ sym (ap (λ b. cond b (left_of was i - 1) (left_of was i)) now.member)
 
-    goes_on : (v : ℕ) → v ≡ worked ran was i → Given Worked was (set xs i v) (first more)
-    goes_on v e = given_on Worked was (set xs i v) (i + 1) (first more) (next_past ran (i + 1) (first more) (omega (arith, now.within)) now.next) (given_more Worked was xs i v now.within here e) (λ k l h. sym (idle_kept k (now.next.skipped k l h)))
+    goes_on : Given Worked was (set xs i (left_of xs i - 1)) (first more)
+    goes_on = given_on Worked was (set xs i (left_of xs i - 1)) (i + 1) (first more) (next_past ran (i + 1) (first more) (omega (arith, now.within)) now.next) (given_more Worked was xs i (left_of xs i - 1) now.within here is) (λ k l h. sym (idle_kept k (now.next.skipped k l h)))
 
-    some_left : EachTo ran Some (first rest) → 0 < worked ran was i → EachTo ran Some (first more)
-    some_left h p = each_more ran Some i more now (subst (EachTo ran Some) (ap first left) h) p
+    some_left : EachTo ran Some (first rest) → left_of xs i - 1 ≢ 0 → EachTo ran Some (first more)
+    some_left h ne = each_more ran Some i more now (subst (EachTo ran Some) (ap first left) h) (omega (arith, is))
 
 pub loop-i-init : goal.loop-i-init
 loop-i-init c =
@@ -48,40 +48,32 @@ loop-i-init c =
       λ _. each_start a.ran (Some a.ran was) (first rest) n,
     )
 
-pub loop-i-preserved : goal.loop-i-preserved
-loop-i-preserved c =
+pub overflow_sub-rest : goal.overflow_sub-rest
+overflow_sub-rest c =
     let a = c.args in
-    let was = a.left.now in
-    let i = c.in-Some.i in
     let l = c.loop-i in
-    let v = c.saturating_sub-rest.result in
-    let more = c.next.new.self in
     let left = c.in-Some.ensures.steps in
-    let t = turn a.ran l.i-iterator more i l.invariant.2 left in
-    let is = lost_one a.ran was l.i-iterator more i left l.invariant.2 l.left l.invariant.3 v c.saturating_sub-rest.ensures in (
-      tt,
-      tt,
-      t.along,
-      goes_on a.ran was l.i-iterator more i left l.invariant.2 l.left l.invariant.3 v is,
-      λ h. some_left a.ran was l.i-iterator more i left l.invariant.2 l.left l.invariant.3 (l.invariant.4 h) (omega (arith, is, c.if-rest-eq0.false)),
-    )
+    let t = turn a.ran l.i-iterator c.next.new.self c.in-Some.i l.invariant.2 left in
+    let h = here a.ran a.left.now l.i-iterator c.next.new.self c.in-Some.i left l.invariant.2 l.left l.invariant.3 in
+    omega (arith, h.2 c.in-Some.i (omega arith), c.requires c.in-Some.i t.within t.member)
 
 pub loop-i-preserved-then-rest-eq0 : goal.loop-i-preserved-then-rest-eq0
 loop-i-preserved-then-rest-eq0 c =
-    let a = c.args in
-    let was = a.left.now in
-    let i = c.in-Some.i in
     let l = c.loop-i in
-    let v = c.saturating_sub-rest.result in
-    let more = c.next.new.self in
     let left = c.in-Some.ensures.steps in
-    let t = turn a.ran l.i-iterator more i l.invariant.2 left in
-    let is = lost_one a.ran was l.i-iterator more i left l.invariant.2 l.left l.invariant.3 v c.saturating_sub-rest.ensures in (
+    let along = (turn c.args.ran l.i-iterator c.next.new.self c.in-Some.i l.invariant.2 left).along in
+    (tt, tt, along, goes_on c.args.ran c.args.left.now l.i-iterator c.next.new.self c.in-Some.i left l.invariant.2 l.left l.invariant.3, λ h. absurd (cc))
+
+pub loop-i-preserved : goal.loop-i-preserved
+loop-i-preserved c =
+    let l = c.loop-i in
+    let left = c.in-Some.ensures.steps in
+    let along = (turn c.args.ran l.i-iterator c.next.new.self c.in-Some.i l.invariant.2 left).along in (
       tt,
       tt,
-      t.along,
-      goes_on a.ran was l.i-iterator more i left l.invariant.2 l.left l.invariant.3 v is,
-      λ h. absurd (cc),
+      along,
+      goes_on c.args.ran c.args.left.now l.i-iterator c.next.new.self c.in-Some.i left l.invariant.2 l.left l.invariant.3,
+      λ h. some_left c.args.ran c.args.left.now l.i-iterator c.next.new.self c.in-Some.i left l.invariant.2 l.left l.invariant.3 (l.invariant.4 h) c.if-rest-eq0.false,
     )
 
 pub returns-clause-none_finished : goal.returns-clause-none_finished

@@ -1,15 +1,15 @@
-use Rattle.std.proofs.Common.{◌≡◌, ℕ, ◌+◌, ◌<◌, replicate, get_or, List, ◌∷◌, Option, sym, refl, ◌∙◌, subst, inl, inr, arith, rules}
-use Rattle.std.proofs.lemmas.Bool.{both_ways}
-use Rattle.std.proofs.lemmas.List.{get_or-replicate}
+use Rattle.std.proofs.Common.{◌≡◌, ℕ, ◌+◌, ◌-◌, ◌<◌, ◌≤◌, ◌⊎◌, List, ◌∷◌, min, Option, sym, refl, ◌∙◌, subst, inl, inr, ⊎_elim, arith, rules}
+use Rattle.std.proofs.lemmas.Bool.{both_ways, cases_lt}
 use Rattle.task.specs.declared.task.Task.{Task}
 use Rattle.task.specs.Tables.{entry_at}
 use Rattle.policy.specs.Members.{NextIn}
 use Rattle.policy.specs.Plans.{plan_of}
 use Rattle.policy.proofs.Rising.{first, along_from, turn}
 use Rattle.trial.specs.declared.trial.Trial.{Trial}
-use Rattle.trial.specs.Slots.{Watched, Passes}
+use Rattle.trial.specs.Slots.{Watched}
 use Rattle.trial.specs.Trials.{NonePasses, missing, Undecided, here, on}
-use Rattle.trial.proofs.Boundaries.{none_passes, lowest_passes, between_now, repeated_now, moved_on, passed_now}
+use Rattle.trial.proofs.Boundaries.{none_passes, lowest_passes, undecided_at, between_now, repeated_now, moved_on, passed_now}
+use Rattle.trial.proofs.Slotwise.{passes_on}
 use Rattle.trial.proofs.Watching.{watched_still}
 use Rattle.trial.proofs.trial.Trial.run.Goals as goal
 use Rattle.trial.proofs.trial.Trial.run.Goals.{then-self+else-from-self, else-from-self-via-then-from-self+else-agrees, else-from-self-via-else-from-self, else-self}
@@ -19,18 +19,18 @@ returns-then-self-ge-LAST_INSTANT g c = (0, here, omega arith, inr (omega arith)
 
 pub invariant_of-watch : goal.invariant_of-watch
 invariant_of-watch g c =
-    let a = c.args.self.now in
-    let each : (i : ℕ) → i < 32 → get_or (replicate 32 (a.instant + 1)) i 0 ≡ a.instant + 1 = λ i h. get_or-replicate 32 i (a.instant + 1) 0 h in
+    let k = c.new.ensures in
     record {
       sized = search rules;
       onward = omega arith;
-      latest = c.latest_releases.ensures;
-      calm_is = λ i h v p q. absurd (omega (arith, each i h));
-      soonest = λ i h. omega (arith, each i h);
+      latest = k.latest;
+      calm_is = λ i h v p q. absurd (omega (arith, k.events i h));
+      grouped = λ r h i x. omega (arith, k.soonest r h, k.events i (omega (arith, x.1)));
+      soonest = λ r h. omega (arith, k.soonest r h);
     }
 
 pub slots-init : goal.slots-init
-slots-init g c = (here, record { tasks_are = refl; begun = omega arith; not_over = omega arith; active_is = c.active_set.ensures; runs_on = λ h. absurd (cc) }, refl)
+slots-init g c = (here, record { tasks_are = refl; begun = omega arith; not_over = omega arith; active_is = c.new.ensures.active; runs_on = λ h. absurd (cc) }, refl)
 
 pub pass-missed-requires-clause-watched : goal.pass-missed-requires-clause-watched
 pass-missed-requires-clause-watched g c =
@@ -38,6 +38,26 @@ pass-missed-requires-clause-watched g c =
     let s = c.slots.invariant.1 in
     let W : List (Option Task) → Type 0 = λ ts. Watched (plan_of (p.keyed c.args.policy.now) (p.precedes c.args.policy.now) (entry_at ts)) ts c.slots.self c.slots.watch in
     subst W (sym s.tasks_are) s
+
+pub pass-missed-requires-clause-instant : goal.pass-missed-requires-clause-instant
+pass-missed-requires-clause-instant g c =
+    let p = g.P.Policy in
+    let plan = plan_of (p.keyed c.args.policy.now) (p.precedes c.args.policy.now) (entry_at c.args.tasks.now) in
+    omega (arith, undecided_at plan c.args.self.now c.slots.invariant.0, c.min-end.ensures, c.from.ensures)
+
+pub returns-after-slots : goal.returns-after-slots
+returns-after-slots g c =
+    let p = g.P.Policy in
+    let plan = plan_of (p.keyed c.args.policy.now) (p.precedes c.args.policy.now) (entry_at c.args.tasks.now) in
+    let a = c.args.self.now in
+    let at = undecided_at plan a c.slots.invariant.0 in
+    let made : c.slots.counter ≡ min (1000000000000000 - a.instant) c.args.n = omega (arith, c.min-end.ensures, c.from.ensures) in
+    let all : (c.slots.counter ≡ c.args.n) ⊎ (1000000000000000 ≤ c.slots.self.instant) =
+    ⊎_elim
+    (λ (l : 1000000000000000 - a.instant < c.args.n). inr (omega (arith, at, made, c.if-self-ge-LAST_INSTANT.false)))
+    (λ (m : c.args.n ≤ 1000000000000000 - a.instant). inl (omega (arith, made)))
+    (cases_lt (1000000000000000 - a.instant) c.args.n) in
+    rw c.slots.invariant.2 (c.slots.counter, c.slots.invariant.0, omega (arith, made), all)
 
 pub loop-i-init : goal.loop-i-init
 loop-i-init g c =
@@ -51,8 +71,7 @@ slots-preserved g c =
     let a = c.slots.self in
     let b = c.pass-missed.new.self in
     let missed = c.pass-missed.result in
-    let S : List (Option Task) → Type 0 = λ ts. Passes (plan_of (p.keyed c.args.policy.now) (p.precedes c.args.policy.now) (entry_at ts)) a missed b in
-    let s : Passes plan a missed b = subst S c.slots.invariant.1.tasks_are c.pass-missed.ensures.passes in
+    let s = passes_on (p.keyed c.args.policy.now) (p.precedes c.args.policy.now) c.slots.watch.tasks.now c.args.tasks.now c.slots.invariant.1.tasks_are a missed b c.pass-missed.ensures.passes in
     let N : List ℕ → Type 0 = λ r. NextIn missed 0 (first r) in
     let none : NonePasses (missing plan a) = none_passes (missing plan a) missed s.missed_is (subst N c.in-None.ensures.steps.0 c.loop-i.invariant.3) in
     let C : Trial → Type 0 = λ d. Undecided plan c.args.self.now (c.slots.counter + 1) d × Watched plan c.args.tasks.now d c.pass-missed.new.watch in
@@ -76,8 +95,7 @@ returns-in-Some g c =
     let a = c.slots.self in
     let missed = c.pass-missed.result in
     let i = c.in-Some.i in
-    let S : List (Option Task) → Type 0 = λ ts. Passes (plan_of (p.keyed c.args.policy.now) (p.precedes c.args.policy.now) (entry_at ts)) a missed c.pass-missed.new.self in
-    let s = subst S c.slots.invariant.1.tasks_are c.pass-missed.ensures.passes in
+    let s = passes_on (p.keyed c.args.policy.now) (p.precedes c.args.policy.now) c.slots.watch.tasks.now c.args.tasks.now c.slots.invariant.1.tasks_are a missed c.pass-missed.new.self c.pass-missed.ensures.passes in
     let left : c.loop-i.i-iterator ≡ i ∷ c.next.new.self = c.in-Some.ensures.steps in
     let t = turn missed c.loop-i.i-iterator c.next.new.self i c.loop-i.invariant.2 left in
     let N : List ℕ → Type 0 = λ r. NextIn missed 0 (first r) in
@@ -90,8 +108,7 @@ returns-then-agrees g c =
     let a = c.slots.self in
     let b = c.pass-missed.new.self in
     let missed = c.pass-missed.result in
-    let S : List (Option Task) → Type 0 = λ ts. Passes (plan_of (p.keyed c.args.policy.now) (p.precedes c.args.policy.now) (entry_at ts)) a missed b in
-    let s = subst S c.slots.invariant.1.tasks_are c.pass-missed.ensures.passes in
+    let s = passes_on (p.keyed c.args.policy.now) (p.precedes c.args.policy.now) c.slots.watch.tasks.now c.args.tasks.now c.slots.invariant.1.tasks_are a missed b c.pass-missed.ensures.passes in
     let N : List ℕ → Type 0 = λ r. NextIn missed 0 (first r) in
     let none : NonePasses (missing plan a) = none_passes (missing plan a) missed s.missed_is (subst N c.in-None.ensures.steps.0 c.loop-i.invariant.3) in
     (c.slots.counter, a, c.slots.invariant.0, omega arith, s.moved, (none, repeated_now plan a missed b s c.if-self.true (omega (arith, c.from.ensures, c.if-from-self.true)) (c.agrees.ensures.0 c.if-agrees.true), s.boundaries.last_kept, s.boundaries.next_kept))
