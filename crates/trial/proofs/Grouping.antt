@@ -29,9 +29,15 @@ none_opens o t r none kept =
     (λ (not : is_due o t ≡ false). ap₂ (λ x y. cond x (time_of o) (cond y 0 r)) none not)
     (cases_Bool (is_due o t))
 
--- 1. a place that is as it was
+-- 1. a place that is as it was, where at most the first events of the groups are new
+abbrev pub with_soonest : Calendar → List ℕ → Calendar
+with_soonest c soonest = record { released = c.released; events = c.events; soonest = soonest; active = c.active; missed = c.missed; fresh = c.fresh }
+
+pub only_soonest : (c : Calendar) (soonest left : List ℕ) (i : ℕ) → Stays c left (with_soonest c soonest) left i
+only_soonest c soonest left i = record { released_kept = refl; events_kept = refl; left_kept = refl; active_kept = refl; missed_kept = refl; none_fresh = λ f. f }
+
 pub none_changed : (c : Calendar) (left : List ℕ) (i : ℕ) → Stays c left c left i
-none_changed c left i = record { released_kept = refl; events_kept = refl; left_kept = refl; active_kept = refl; missed_kept = refl; none_fresh = λ f. f }
+none_changed c left i = only_soonest c c.soonest left i
 
 module _ (c d : Calendar) (left end : List ℕ) (i : ℕ) (s : Stays c left d end i) where
   pub stays_on : (b : Calendar) (was : List ℕ) → Stays b was c left i → Stays b was d end i

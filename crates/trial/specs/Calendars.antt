@@ -12,13 +12,13 @@ use Rattle.trial.specs.Places.{releases, opens, misses, CalmUntil}
 abbrev pub InGroup : (g i : ℕ) → Type 0
 InGroup g i = (8 * g ≤ i) × (i < 8 * g + 8)
 
--- before t, the calendar knows of place i since when its job is there and until when nothing happens, and whether its job is active
+-- before t: the calendar knows of place i since when its job is there, until when nothing happens, and whether its job is active
 pub record Awaits (at : ℕ → Option Entry) (t : ℕ) (c : Calendar) (left : List ℕ) (i : ℕ) : Type 0 where
   pub latest : Latest (at i) (t - 1) (slice_index c.released i)
   pub calm : CalmUntil (at i) (t - 1) (slice_index c.events i)
   pub active_is : has c.active i ≡ is_active at left i
 
--- rules 1 and 2 at t were applied to place i, whose job had r left, and the calendar knows of it what it knew, from t on
+-- after t: rules 1 and 2 were applied to place i, whose job had r left, and the calendar knows the same of it from t on
 pub record Arrived (at : ℕ → Option Entry) (t r : ℕ) (c : Calendar) (left : List ℕ) (i : ℕ) : Type 0 where
   pub latest : Latest (at i) t (slice_index c.released i)
   pub later : t < slice_index c.events i

@@ -2,7 +2,7 @@
 
 #![tactic(auto)]
 
-/// The set of the active jobs.
+/// Sets of jobs that a slot or an event changes.
 pub mod active;
 /// What an event makes of a place.
 pub mod arriving;

@@ -105,7 +105,8 @@ impl Trial {
             calm: self.instant + 1,
             lasts: false,
         };
-        'slots: for _ in 0..(LAST_INSTANT - self.instant).min(u64::from(n)) {
+        let most = (LAST_INSTANT - self.instant).min(u64::from(n));
+        'slots: for _ in 0..most {
             let missed = self.pass(policy, &mut watch);
             // stays: a listed form (docs/DECISIONS.md, Language forms), an inner loop that leaves the outer one by its label.
             for i in members_of(missed) {

@@ -1,9 +1,9 @@
-use Rattle.std.proofs.Common.{◌≡◌, ◌+◌, ◌*◌, ◌<◌, ◌≤◌, length, refl, inl, inr, ⊎_elim, arith, rules, get_or-set_same, get_or-set_other}
+use Rattle.std.proofs.Common.{◌≡◌, ◌+◌, ◌*◌, ◌<◌, ◌≤◌, ◌⊎◌, length, set, refl, inl, inr, ⊎_elim, arith, rules, get_or-set_same, get_or-set_other}
 use Rattle.std.proofs.lemmas.Bool.{cases_lt}
 use Rattle.task.specs.Tables.{entry_at}
 use Rattle.policy.specs.Sets.{left_of}
 use Rattle.trial.specs.Calendars.{InGroup}
-use Rattle.trial.proofs.Grouping.{none_changed, arrived_still, none_gone, awaits_here, quiet_here, arrives_here, one_gone}
+use Rattle.trial.proofs.Grouping.{none_changed, only_soonest, stays_on, arrived_still, none_gone, awaits_here, quiet_here, arrives_here, one_gone}
 use Rattle.trial.proofs.calendar.Calendar.arrive_group.Goals as goal
 use Rattle.trial.proofs.calendar.Calendar.arrive_group.Goals.{then-self-i, else-self-i}
 
@@ -38,13 +38,18 @@ loop-i-preserved c =
 pub returns-clause-arrived : goal.returns-clause-arrived
 returns-clause-arrived c i h =
     let l = c.loop-i in
-    arrived_still l.self _ l.left l.left i (record { released_kept = refl; events_kept = refl; left_kept = refl; active_kept = refl; missed_kept = refl; none_fresh = λ f. f }) (entry_at c.args.tasks.now) c.args.t (left_of c.args.left.now i) (l.invariant.arrived i h.0 (omega (arith, h.1)))
+    arrived_still l.self _ l.left l.left i (only_soonest l.self (set l.self.soonest c.args.g l.soonest) l.left i) (entry_at c.args.tasks.now) c.args.t (left_of c.args.left.now i) (l.invariant.arrived i h.0 (omega (arith, h.1)))
 
 pub returns-clause-others : goal.returns-clause-others
 returns-clause-others c i h out =
     let l = c.loop-i in
-    let s = l.invariant.others i h (⊎_elim (λ (x : i < 8 * c.args.g). inl x) (λ (x : 8 * c.args.g ≤ i). inr (⊎_elim (λ (y : i < 8 * c.args.g + 8). absurd (out (x, y))) (λ (y : 8 * c.args.g + 8 ≤ i). omega arith) (cases_lt i (8 * c.args.g + 8)))) (cases_lt i (8 * c.args.g))) in
-    record { released_kept = s.released_kept; events_kept = s.events_kept; left_kept = s.left_kept; active_kept = s.active_kept; missed_kept = s.missed_kept; none_fresh = s.none_fresh }
+    let outside : (i < 8 * c.args.g) ⊎ (8 * c.args.g + 8 ≤ i) =
+    ⊎_elim
+    (λ (x : i < 8 * c.args.g). inl x)
+    (λ (x : 8 * c.args.g ≤ i). inr (⊎_elim (λ (y : i < 8 * c.args.g + 8). absurd (out (x, y))) (λ (y : 8 * c.args.g + 8 ≤ i). y) (cases_lt i (8 * c.args.g + 8))))
+    (cases_lt i (8 * c.args.g)) in
+    stays_on l.self _ l.left l.left i (only_soonest l.self (set l.self.soonest c.args.g l.soonest) l.left i) c.args.self.now c.args.left.now
+    (l.invariant.others i h (⊎_elim (λ (x : i < 8 * c.args.g). inl x) (λ (x : 8 * c.args.g + 8 ≤ i). inr (omega arith)) outside))
 
 pub returns-clause-soonest : goal.returns-clause-soonest
 returns-clause-soonest c i h =

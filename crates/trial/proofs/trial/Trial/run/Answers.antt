@@ -43,7 +43,7 @@ pub pass-missed-requires-clause-instant : goal.pass-missed-requires-clause-insta
 pass-missed-requires-clause-instant g c =
     let p = g.P.Policy in
     let plan = plan_of (p.keyed c.args.policy.now) (p.precedes c.args.policy.now) (entry_at c.args.tasks.now) in
-    omega (arith, undecided_at plan c.args.self.now c.slots.invariant.0, c.min-end.ensures, c.from.ensures)
+    omega (arith, undecided_at plan c.args.self.now c.slots.invariant.0, c.min-most.ensures, c.from.ensures)
 
 pub returns-after-slots : goal.returns-after-slots
 returns-after-slots g c =
@@ -51,7 +51,7 @@ returns-after-slots g c =
     let plan = plan_of (p.keyed c.args.policy.now) (p.precedes c.args.policy.now) (entry_at c.args.tasks.now) in
     let a = c.args.self.now in
     let at = undecided_at plan a c.slots.invariant.0 in
-    let made : c.slots.counter ≡ min (1000000000000000 - a.instant) c.args.n = omega (arith, c.min-end.ensures, c.from.ensures) in
+    let made : c.slots.counter ≡ min (1000000000000000 - a.instant) c.args.n = omega (arith, c.min-most.ensures, c.from.ensures) in
     let all : (c.slots.counter ≡ c.args.n) ⊎ (1000000000000000 ≤ c.slots.self.instant) =
     ⊎_elim
     (λ (l : 1000000000000000 - a.instant < c.args.n). inr (omega (arith, at, made, c.if-self-ge-LAST_INSTANT.false)))
