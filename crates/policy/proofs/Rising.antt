@@ -121,27 +121,26 @@ others_same set rest low (suc n) h =
     rw (on, more) refl
 
 -- the lowest bit of a number that is not 0 is gone from the number before it, and the bits above are the same
-module _ where
-  even_half : (n : ℕ) → bit_at n 0 ≡ 0 → (n - 1) / 2 ≡ n / 2 - 1
-  even_half n e = omega (arith, bit_at_lowest n)
+even_half : (n : ℕ) → bit_at n 0 ≡ 0 → (n - 1) / 2 ≡ n / 2 - 1
+even_half n e = omega (arith, bit_at_lowest n)
 
-  gone_before : (i n : ℕ) → bit_at n i ≡ 1 → ((k : ℕ) → k < i → bit_at n k ≡ 0) → bit_at (n - 1) i ≡ 0
-  gone_before zero n on off = omega (arith, bit_at_lowest n, bit_at_lowest (n - 1))
-  gone_before (suc i) n on off =
-      bit_at-suc (n - 1) i
-      ∙ (ap (λ m. bit_at m i) (even_half n (off 0 (omega arith)))
-      ∙ gone_before i (n / 2) (sym (bit_at-suc n i) ∙ on) (λ k l. sym (bit_at-suc n k) ∙ off (suc k) (omega arith)))
+gone_before : (i n : ℕ) → bit_at n i ≡ 1 → ((k : ℕ) → k < i → bit_at n k ≡ 0) → bit_at (n - 1) i ≡ 0
+gone_before zero n on off = omega (arith, bit_at_lowest n, bit_at_lowest (n - 1))
+gone_before (suc i) n on off =
+    bit_at-suc (n - 1) i
+    ∙ (ap (λ m. bit_at m i) (even_half n (off 0 (omega arith)))
+    ∙ gone_before i (n / 2) (sym (bit_at-suc n i) ∙ on) (λ k l. sym (bit_at-suc n k) ∙ off (suc k) (omega arith)))
 
-  same_before : (i k n : ℕ) → i < k → bit_at n i ≡ 1 → ((k : ℕ) → k < i → bit_at n k ≡ 0) → bit_at (n - 1) k ≡ bit_at n k
-  same_before i zero n l on off = absurd (omega arith)
-  same_before zero (suc k) n l on off =
-      let odd : (n - 1) / 2 ≡ n / 2 = omega (arith, bit_at_lowest n) in
-      bit_at-suc (n - 1) k ∙ (ap (λ m. bit_at m k) odd ∙ sym (bit_at-suc n k))
-  same_before (suc i) (suc k) n l on off =
-      bit_at-suc (n - 1) k
-      ∙ (ap (λ m. bit_at m k) (even_half n (off 0 (omega arith)))
-      ∙ (same_before i k (n / 2) (omega arith) (sym (bit_at-suc n i) ∙ on) (λ k l. sym (bit_at-suc n k) ∙ off (suc k) (omega arith))
-      ∙ sym (bit_at-suc n k)))
+same_before : (i k n : ℕ) → i < k → bit_at n i ≡ 1 → ((k : ℕ) → k < i → bit_at n k ≡ 0) → bit_at (n - 1) k ≡ bit_at n k
+same_before i zero n l on off = absurd (omega arith)
+same_before zero (suc k) n l on off =
+    let odd : (n - 1) / 2 ≡ n / 2 = omega (arith, bit_at_lowest n) in
+    bit_at-suc (n - 1) k ∙ (ap (λ m. bit_at m k) odd ∙ sym (bit_at-suc n k))
+same_before (suc i) (suc k) n l on off =
+    bit_at-suc (n - 1) k
+    ∙ (ap (λ m. bit_at m k) (even_half n (off 0 (omega arith)))
+    ∙ (same_before i k (n / 2) (omega arith) (sym (bit_at-suc n i) ∙ on) (λ k l. sym (bit_at-suc n k) ∙ off (suc k) (omega arith))
+    ∙ sym (bit_at-suc n k)))
 
 -- without its lowest member, a set has its other members
 module _ (set i : ℕ) (n : NextIn set 0 i) (l : i < 32) where

@@ -9,7 +9,7 @@ use Rattle.policy.specs.Releases.{Latest}
 use Rattle.policy.specs.Sets.{left_of}
 use Rattle.trial.specs.declared.calendar.Calendar.{Calendar}
 use Rattle.trial.specs.Calendars.{Awaits, Arrived, Stays, InGroup, Soonest}
-use Rattle.trial.specs.Places.{releases, is_due, opens, misses, Calm, CalmUntil}
+use Rattle.trial.specs.Places.{NoRelease, is_due, opens, misses, Calm, CalmUntil}
 use Rattle.trial.proofs.Watching.{stays}
 
 -- where an instant is calm, rules 1 and 2 leave a job as it is, and it does not miss
@@ -20,7 +20,7 @@ calm_misses : (o : Option Entry) (t r : ℕ) → Calm o t → misses o t r ≡ f
 calm_misses o t r q = ap (λ x. x && ltb 0 r) q.no_deadline
 
 -- and so where no job is released and none misses
-pub none_opens : (o : Option Entry) (t r : ℕ) → (is_some o && releases o t) ≡ false → misses o t r ≡ false → opens o t r ≡ r
+pub none_opens : (o : Option Entry) (t r : ℕ) → NoRelease o t → misses o t r ≡ false → opens o t r ≡ r
 none_opens o t r none kept =
     ⊎_elim
     (λ (due : is_due o t ≡ true).

@@ -20,7 +20,7 @@ use Rattle.policy.specs.Sets.{left_of, word_of}
 use Rattle.policy.proofs.Running.{all_run, idle_part}
 use Rattle.policy.proofs.Since.{age_rises}
 use Rattle.policy.proofs.Words.{word_has, word_ones}
-use Rattle.trial.specs.Places.{releases}
+use Rattle.trial.specs.Places.{NoRelease, releases}
 use Rattle.trial.specs.Slots.{worked, is_finished, Steady, Lasts}
 
 -- 1. a slot later a released job is a slot older, unless the next is released
@@ -38,7 +38,7 @@ age_next x T p ne =
     (λ (l : T ≤ x % T + 1). absurd (ne (whole_next x T p (omega arith))))
     (cases_lt (x % T + 1) T)
 
-older_by : (o : Option Task) (t : ℕ) → is_some (entry_of o) ≡ true → offset_of (entry_of o) ≤ t → (is_some (entry_of o) && releases (entry_of o) (t + 1)) ≡ false
+older_by : (o : Option Task) (t : ℕ) → is_some (entry_of o) ≡ true → offset_of (entry_of o) ≤ t → NoRelease (entry_of o) (t + 1)
     → ((t + 1) - offset_of (entry_of o)) % period_of (entry_of o) ≡ (t - offset_of (entry_of o)) % period_of (entry_of o) + 1
 older_by None t some h none = absurd (cc)
 older_by (Some k) t some h none =
@@ -116,7 +116,7 @@ module _ {K : Type 0} (keyed : Entry → ℕ → K) (le : K → K → Bool) wher
       pub same_active : (i : ℕ) → i < 32 → is_active at end i ≡ is_active at left i
       same_active i h = ap (λ b. is_some (at i) && b) (same_some i h)
 
-      module _ (none : (i : ℕ) → i < 32 → (is_some (at i) && releases (at i) (t + 1)) ≡ false) (l : Lasts plan m t (left_of left)) where
+      module _ (none : (i : ℕ) → i < 32 → NoRelease (at i) (t + 1)) (l : Lasts plan m t (left_of left)) where
         module _ (steady : Steady plan) (begun : (i : ℕ) → i < 32 → active plan (left_of left) i ≡ true → offset_of (at i) ≤ t) where
           older : (i : ℕ) → i < 32 → is_active at left i ≡ true → age plan i (t + 1) ≡ age plan i t + 1
           older i h on = older_by (get_or tasks i None) t (and_parts (is_some (at i)) (ltb 0 (left_of left i)) on).0 (begun i h on) (none i h)

@@ -12,7 +12,7 @@ use Rattle.policy.specs.Sets.{word_of, left_of}
 use Rattle.policy.proofs.Words.{word_has, word_same}
 use Rattle.trial.specs.declared.trial.Trial.{Trial}
 use Rattle.trial.specs.declared.watch.Watch.{Watch}
-use Rattle.trial.specs.Places.{releases, opens, misses, Calm}
+use Rattle.trial.specs.Places.{NoRelease, opens, misses, Calm}
 use Rattle.trial.specs.Slots.{worked, Chosen, Lasts, Ticked, NoneFinished, RunsOn, Passes}
 use Rattle.trial.specs.Trials.{after_slot, missing}
 use Rattle.trial.proofs.Lasting.{runs_same, lasts_on}
@@ -80,7 +80,7 @@ module _ {K : Type 0} (keyed : Entry → ℕ → K) (le : K → K → Bool) (tas
   of = plan_of keyed le (entry_at tasks)
 
   pub runs_of : Ticked of a b → NoneFinished of a b → ((i : ℕ) → i < 32 → left_of end i ≡ left_of b.left i)
-      → ((i : ℕ) → i < 32 → (is_some (entry_at tasks i) && releases (entry_at tasks i) (a.instant + 1)) ≡ false) → RunsOn of (with_left b end)
+      → ((i : ℕ) → i < 32 → NoRelease (entry_at tasks i) (a.instant + 1)) → RunsOn of (with_left b end)
   runs_of t n same none =
       let is : (i : ℕ) → i < 32 → left_of end i ≡ after_slot of a i = λ i h. same i h ∙ t.left_is i h in
       let some : (i : ℕ) → i < 32 → has_cpu of a.cpus a.instant (left_of a.left) i ≡ true → 0 < left_of end i = λ i h on. omega (arith, same i h, n.some_left i h on) in

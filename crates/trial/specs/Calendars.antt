@@ -1,12 +1,12 @@
 -- What a calendar says of a place of the table, before an event and after it.
-use Rattle.std.specs.Prelude.{◌≡◌, ℕ, ◌+◌, ◌-◌, ◌*◌, ◌<◌, ◌≤◌, false, ◌&&◌, is_some, List, Option, slice_index}
+use Rattle.std.specs.Prelude.{◌≡◌, ℕ, ◌+◌, ◌-◌, ◌*◌, ◌<◌, ◌≤◌, false, List, Option, slice_index}
 use Rattle.task.specs.declared.entry.Entry.{Entry}
 use Rattle.policy.specs.Dispatch.{is_active}
 use Rattle.policy.specs.Members.{has}
 use Rattle.policy.specs.Releases.{Latest}
 use Rattle.policy.specs.Sets.{left_of}
 use Rattle.trial.specs.declared.calendar.Calendar.{Calendar}
-use Rattle.trial.specs.Places.{releases, opens, misses, CalmUntil}
+use Rattle.trial.specs.Places.{NoRelease, opens, misses, CalmUntil}
 
 -- place i is one of the eight of group g
 abbrev pub InGroup : (g i : ℕ) → Type 0
@@ -26,7 +26,7 @@ pub record Arrived (at : ℕ → Option Entry) (t r : ℕ) (c : Calendar) (left 
   pub left_is : left_of left i ≡ opens (at i) t r
   pub active_is : has c.active i ≡ is_active at left i
   pub missed_is : has c.missed i ≡ misses (at i) t r
-  pub fresh_is : c.fresh ≡ false → (is_some (at i) && releases (at i) t) ≡ false
+  pub fresh_is : c.fresh ≡ false → NoRelease (at i) t
 
 -- place i is as it was
 pub record Stays (c : Calendar) (left : List ℕ) (d : Calendar) (end : List ℕ) (i : ℕ) : Type 0 where

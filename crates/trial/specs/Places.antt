@@ -20,9 +20,13 @@ opens o t r = cond (is_some o && releases o t) (time_of o) (cond (is_due o t) 0 
 abbrev pub misses : Option Entry → (t r : ℕ) → Bool
 misses o t r = is_due o t && nat_lt 0 r
 
+-- at t no job is released
+abbrev pub NoRelease : Option Entry → ℕ → Type 0
+NoRelease o t = (is_some o && releases o t) ≡ false
+
 -- at t no job is released, and t is no job's deadline
 pub record Calm (o : Option Entry) (t : ℕ) : Type 0 where
-  pub no_release : (is_some o && releases o t) ≡ false
+  pub no_release : NoRelease o t
   pub no_deadline : is_due o t ≡ false
 
 -- every instant after t and before u is calm in the place

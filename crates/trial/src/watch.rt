@@ -1,11 +1,11 @@
-ghost use Rattle.std.specs.Prelude.{◌≡◌, ℕ, ◌<◌, ◌≤◌, true, false, ◌&&◌, Decides, is_some, slice_index, length};
+ghost use Rattle.std.specs.Prelude.{◌≡◌, ℕ, ◌<◌, ◌≤◌, true, false, Decides, slice_index, length};
 ghost use Rattle.task.specs.Tables.{entry_at};
 ghost use Rattle.policy.specs.Dispatch.{is_active};
 ghost use Rattle.policy.specs.Members.{has};
 ghost use Rattle.policy.specs.Releases.{Latest};
 ghost use Rattle.policy.specs.Sets.{left_of, word_of};
 ghost use Rattle.trial.specs.Calendars.{Soonest};
-ghost use Rattle.trial.specs.Places.{releases, opens, misses, CalmUntil};
+ghost use Rattle.trial.specs.Places.{NoRelease, opens, misses, CalmUntil};
 ghost use Rattle.trial.specs.Settled.{latest_prop, calm_prop, grouped_prop, soonest_prop};
 
 use crate::calendar::Calendar;
@@ -55,7 +55,7 @@ impl Watch<'_> {
         ensures missed { result ≡ word_of (λ i. misses (entry_at self.old.tasks.now i) self.old.calm (left_of left.old i)) 32 }
         ensures left { (i : ℕ) → i < 32 → left_of left.new i ≡ opens (entry_at self.old.tasks.now i) self.old.calm (left_of left.old i) }
         ensures active { (i : ℕ) → i < 32 → has self.new.calendar.active i ≡ is_active (entry_at self.old.tasks.now) left.new i }
-        ensures fresh { self.new.calendar.fresh ≡ false → (i : ℕ) → i < 32 → (is_some (entry_at self.old.tasks.now i) && releases (entry_at self.old.tasks.now i) self.old.calm) ≡ false }
+        ensures fresh { self.new.calendar.fresh ≡ false → (i : ℕ) → i < 32 → NoRelease (entry_at self.old.tasks.now i) self.old.calm }
         ensures lasts { self.new.lasts ≡ self.old.lasts }
         ensures tasks { self.new.tasks.now ≡ self.old.tasks.now }
         ensures since { self.new.since ≡ self.old.calm }

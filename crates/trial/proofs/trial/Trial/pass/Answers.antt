@@ -1,4 +1,4 @@
-use Rattle.std.proofs.Common.{◌≡◌, ℕ, ◌+◌, ◌<◌, false, ◌&&◌, is_some, List, Option, sym, refl, ap, ◌∙◌, subst, arith}
+use Rattle.std.proofs.Common.{◌≡◌, ℕ, ◌+◌, ◌<◌, false, List, Option, sym, refl, ap, ◌∙◌, subst, arith}
 use Rattle.task.specs.declared.task.Task.{Task}
 use Rattle.task.specs.Tables.{entry_at}
 use Rattle.policy.specs.Dispatch.{is_active}
@@ -6,7 +6,7 @@ use Rattle.policy.specs.Members.{has}
 use Rattle.policy.specs.Plans.{plan_of}
 use Rattle.policy.specs.Sets.{left_of, word_of}
 use Rattle.policy.proofs.Words.{none_has, word_has}
-use Rattle.trial.specs.Places.{Calm, releases, opens, misses}
+use Rattle.trial.specs.Places.{NoRelease, Calm, opens, misses}
 use Rattle.trial.proofs.Grouping.{none_opens}
 use Rattle.trial.proofs.Slotwise.{passes_of, runs_of, opened_is, missed_is, calm_is, none_missed}
 use Rattle.trial.proofs.Watching.{calm_before}
@@ -57,8 +57,8 @@ returns g c =
     let O : ℕ → List (Option Task) → Type 0 = λ i ts. left_of end i ≡ opens (entry_at ts i) (a.instant + 1) (left_of b.left i) in
     let opened : (i : ℕ) → i < 32 → O i w.tasks.now = λ i h. subst (O i) kept.tasks_kept (c.arrive-missed.ensures.left i h ∙ ap (λ u. opens (entry_at c.tick.new.watch.tasks.now i) u (left_of b.left i)) now) in
     let on = c.arrive-missed.new.self in
-    let N : ℕ → List (Option Task) → Type 0 = λ i ts. (is_some (entry_at ts i) && releases (entry_at ts i) (a.instant + 1)) ≡ false in
-    let none : on.calendar.fresh ≡ false → (i : ℕ) → i < 32 → N i w.tasks.now = λ f i l. subst (N i) kept.tasks_kept (ap (λ u. is_some (entry_at c.tick.new.watch.tasks.now i) && releases (entry_at c.tick.new.watch.tasks.now i) u) (sym now) ∙ c.arrive-missed.ensures.fresh f i l) in
+    let N : ℕ → List (Option Task) → Type 0 = λ i ts. NoRelease (entry_at ts i) (a.instant + 1) in
+    let none : on.calendar.fresh ≡ false → (i : ℕ) → i < 32 → N i w.tasks.now = λ f i l. subst (N i) kept.tasks_kept (subst (NoRelease (entry_at c.tick.new.watch.tasks.now i)) now (c.arrive-missed.ensures.fresh f i l)) in
     let same : c.arrive-missed.result ≡ 0 → on.calendar.fresh ≡ false → (i : ℕ) → i < 32 → left_of end i ≡ left_of b.left i =
     λ z f i l. opened i l ∙ none_opens (at i) (a.instant + 1) (left_of b.left i) (none f i l) (sym (word_has (λ i. misses (at i) (a.instant + 1) (left_of b.left i)) 0 i (sym z ∙ missed) l) ∙ none_has i) in
     let A : ℕ → List (Option Task) → Type 0 = λ i ts. has on.calendar.active i ≡ is_active (entry_at ts) end i in
