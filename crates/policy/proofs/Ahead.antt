@@ -1,15 +1,15 @@
 -- A loop along the jobs of a slot that counts those that stand before a job.
-use Rattle.std.proofs.Common.{◌≡◌, ℕ, ◌+◌, ◌-◌, ◌≤◌, Bool, true, false, ltb, List, ◌∷◌, sym, ap, ◌∙◌, arith}
+use Rattle.std.proofs.Common.{◌≡◌, ℕ, ◌+◌, ◌-◌, ◌≤◌, Bool, true, false, cond, ltb, List, ◌∷◌, get_or, None, sym, ap, ◌∙◌, arith}
 use Rattle.std.proofs.lemmas.Bool.{le-ltb}
 use Rattle.schedule.specs.Counting.{count_below}
 use Rattle.schedule.proofs.Sums.{count_upto}
 use Rattle.task.specs.declared.entry.Entry.{Entry}
+use Rattle.task.specs.Tables.{entry_at}
 use Rattle.policy.specs.declared.slot.Slot.{Slot}
-use Rattle.policy.specs.declared.dispatch.Job.{Job}
-use Rattle.policy.specs.Dispatch.{ahead_of, count_ahead}
+use Rattle.policy.specs.declared.choosing.Job.{Job}
+use Rattle.policy.specs.Dispatch.{key_at, since, ahead_of, count_ahead}
 use Rattle.policy.specs.Members.{has, members_from}
 use Rattle.policy.specs.Slots.{keys_of}
-use Rattle.policy.proofs.Idle.{idle_behind}
 use Rattle.policy.proofs.Rising.{first, Along, Turn, along_from, turn}
 use Rattle.policy.proofs.Stopping.{count_start, count_hit, count_miss}
 
@@ -18,7 +18,7 @@ module _ {P K : Type 0} (keyed : P → Entry → ℕ → K) (le : K → K → Bo
   before j = ahead_of le (keys_of keyed s j) j job.key job.place
 
   idle : (k : ℕ) → has s.jobs k ≡ false → before k ≡ false
-  idle k off = idle_behind keyed le s job.key job.place k off
+  idle k off = ap (λ o. ahead_of le o k job.key job.place) (ap (λ b. cond b (key_at (keyed s.policy.now) (entry_at s.tasks.now k) (since (get_or s.released.now k 0) s.instant)) None) off)
 
   -- the count so far is that of the jobs up to the next
   abbrev pub Counted : (ahead : ℕ) → List ℕ → Type 0

@@ -1,12 +1,10 @@
 pub mod Words
 pub mod Stopping
-pub mod Beginning
-pub mod Idle
+pub mod Each
 pub mod Ranks
 pub mod Running
 pub mod Walking
 pub mod Rising
 pub mod Since
-pub mod Marks
-pub mod Contest
 pub mod Ahead
+pub mod Kept

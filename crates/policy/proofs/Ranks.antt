@@ -16,7 +16,7 @@ module _ {K : Type 0} (le : K → K → Bool) where
   pub before_itself : (a : K) (i : ℕ) → stands_before le a i a i ≡ false
   before_itself a i = grind (arith, nat_tests)
 
-  before_total : ((a b : K) → (le a b ≡ true) ⊎ (le b a ≡ true)) → (a b : K) (i j : ℕ) → (i ≡ j → ⊥) → (stands_before le a i b j ≡ true) ⊎ (stands_before le b j a i ≡ true)
+  pub before_total : ((a b : K) → (le a b ≡ true) ⊎ (le b a ≡ true)) → (a b : K) (i j : ℕ) → (i ≡ j → ⊥) → (stands_before le a i b j ≡ true) ⊎ (stands_before le b j a i ≡ true)
   before_total total a b i j ne = let t = total a b in grind (arith, nat_tests)
 
   pub before_through : ((a b c : K) → le a b ≡ true → le b c ≡ true → le a c ≡ true) → (a b c : K) (i j k : ℕ) → stands_before le a i b j ≡ true → stands_before le b j c k ≡ true → stands_before le a i c k ≡ true

@@ -2,7 +2,7 @@
 use Rattle.std.proofs.Common.{◌≡◌, ℕ, ◌<◌, ◌≤◌, Bool, true, false, cond, ◌&&◌, ltb, List, get_or, is_some, Some, None, Option, sym, refl, ap, ◌∙◌, ⊎_elim, arith}
 use lib.Count.{ones}
 use Rattle.std.proofs.Math.Bool.{and-false}
-use Rattle.std.proofs.lemmas.Bool.{and_parts, and_from, lt-ltb, le-ltb, ltb-true, ltb-false, cases_Bool}
+use Rattle.std.proofs.lemmas.Bool.{and_parts, and_from, lt-ltb, cases_Bool}
 use Rattle.std.proofs.lemmas.Option.{cond_some}
 use Rattle.schedule.specs.Counting.{count_below}
 use Rattle.schedule.specs.Schedule.{has_cpu, stands_ahead}
@@ -13,10 +13,19 @@ use Rattle.policy.specs.Order.{stands_before}
 use Rattle.policy.specs.Plans.{plan_of, goes_before}
 use Rattle.policy.specs.Ages.{age_of}
 use Rattle.policy.specs.Sets.{left_of, word_of}
-use Rattle.policy.specs.Dispatch.{job_key, key_at, since, set_job, ahead_of, count_ahead, runs_at, runs_of, is_active, Known}
+use Rattle.policy.specs.Dispatch.{job_key, key_at, since, set_job, ahead_of, count_ahead, is_active, Known}
 use Rattle.policy.specs.Members.{has}
-use Rattle.policy.proofs.Ranks.{before_itself, before_through, goes_some, goes_itself}
+use Rattle.policy.proofs.Ranks.{goes_some, goes_itself}
 use Rattle.policy.proofs.Words.{word_same, word_ones, word_has}
+
+-- the same of the key at i: there is a job, and fewer than m active jobs stand before it
+abbrev pub runs_at : {K : Type 0} → (K → K → Bool) → (ℕ → Option K) → (m i : ℕ) → Option K → Bool
+runs_at le jobs m i None = false
+runs_at le jobs m i (Some k) = ltb (count_ahead le jobs k i) m
+
+-- task i's job is active, and fewer than m active jobs stand before it
+abbrev pub runs_of : {K : Type 0} → (K → K → Bool) → (ℕ → Option K) → (m i : ℕ) → Bool
+runs_of le jobs m i = runs_at le jobs m i (jobs i)
 
 module _ {K : Type 0} (keyed : Entry → ℕ → K) (le : K → K → Bool) where
   -- 1. by the keys
@@ -104,28 +113,3 @@ module _ {K : Type 0} (keyed : Entry → ℕ → K) (le : K → K → Bool) wher
 
   pub few_run : (at : ℕ → Option Entry) (left : List ℕ) (m t set : ℕ) → set ≡ word_of (is_active at left) 32 → ones set ≤ m → set ≡ word_of (has_cpu (plan_of keyed le at) m t (left_of left)) 32
   few_run at left m t set e h = e ∙ all_set at left m t (let q : ones set ≡ count_below 32 (is_active at left) = ap ones e ∙ word_ones (is_active at left) 32 in omega arith)
-
--- 3. what is before a job that runs runs too, and what is behind one that waits waits too
-module _ {K : Type 0} (le : K → K → Bool) (trans : (a b c : K) → le a b ≡ true → le b c ≡ true → le a c ≡ true) where
-  ahead_through : (o : Option K) (x : ℕ) (a : K) (j : ℕ) (b : K) (i : ℕ) → stands_before le a j b i ≡ true → ahead_of le o x a j ≡ true → ahead_of le o x b i ≡ true
-  ahead_through None x a j b i h p = p
-  ahead_through (Some c) x a j b i h p = before_through le trans c a b x j i p h
-
-  module _ (jobs : ℕ → Option K) (m : ℕ) where
-    -- fewer stand before the earlier of two
-    fewer : (j i : ℕ) (a b : K) → j < 32 → jobs j ≡ Some a → stands_before le a j b i ≡ true → count_ahead le jobs a j < count_ahead le jobs b i
-    fewer j i a b h e p =
-        count_lt 32 (λ x. ahead_of le (jobs x) x a j) (λ x. ahead_of le (jobs x) x b i) j h
-        (λ x _ q. ahead_through (jobs x) x a j b i p q)
-        (rw e (before_itself le a j))
-        (rw e p)
-
-    pub behind_waiting : (j i : ℕ) (a b : K) → j < 32 → jobs j ≡ Some a → jobs i ≡ Some b → runs_of le jobs m j ≡ false → stands_before le a j b i ≡ true → runs_of le jobs m i ≡ false
-    behind_waiting j i a b h e f w p =
-        let wait : ltb (count_ahead le jobs a j) m ≡ false = sym (ap (runs_at le jobs m j) e) ∙ w in
-        ap (runs_at le jobs m i) f ∙ le-ltb (count_ahead le jobs b i) m (omega (arith, ltb-false (count_ahead le jobs a j) m wait, fewer j i a b h e p))
-
-    pub before_running : (j i : ℕ) (a b : K) → i < 32 → jobs j ≡ Some a → jobs i ≡ Some b → runs_of le jobs m j ≡ true → stands_before le b i a j ≡ true → runs_of le jobs m i ≡ true
-    before_running j i a b h e f w p =
-        let run : ltb (count_ahead le jobs a j) m ≡ true = sym (ap (runs_at le jobs m j) e) ∙ w in
-        ap (runs_at le jobs m i) f ∙ lt-ltb (count_ahead le jobs b i) m (omega (arith, ltb-true (count_ahead le jobs a j) m run, fewer i j b a h f p))

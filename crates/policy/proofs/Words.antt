@@ -31,6 +31,13 @@ bit_without (suc zero) (suc zero) n h l e = let z : n ≡ 0 = omega arith in rw 
 bit_without (suc zero) (suc (suc b)) n h l e = absurd (omega arith)
 bit_without (suc (suc a)) b n h l e = absurd (omega arith)
 
+bit_both : (a b n : ℕ) → a < 2 → b < 2 → n ≡ min a b → eqb n 1 ≡ (eqb a 1 && eqb b 1)
+bit_both zero b n h l e = let z : n ≡ 0 = omega arith in rw z refl
+bit_both (suc zero) zero n h l e = let z : n ≡ 0 = omega arith in rw z refl
+bit_both (suc zero) (suc zero) n h l e = let z : n ≡ 1 = omega arith in rw z refl
+bit_both (suc zero) (suc (suc b)) n h l e = absurd (omega arith)
+bit_both (suc (suc a)) b n h l e = absurd (omega arith)
+
 -- the empty set has no member
 pub none_has : (i : ℕ) → has 0 i ≡ false
 none_has i = ap (λ b. eqb b 1) (bit_at-zero i)
@@ -108,6 +115,10 @@ module _ (f : ℕ → Bool) where
 pub without_has : (set out i : ℕ) → out < 2 ^ 32 → i < 32 → has (bit_and set (bit_not w32 out)) i ≡ (has set i && not (has out i))
 without_has set out i low h =
     bit_without ((set / 2 ^ i) % 2) ((out / 2 ^ i) % 2) (bit_at (bit_and set (bit_not w32 out)) i) (omega arith) (omega arith) (bit_at_and set (bit_not w32 out) i ∙ ap (min (bit_at set i)) (bit_at_not w32 out i low h))
+
+-- who is in both of two sets
+pub both_has : (a b i : ℕ) → has (bit_and a b) i ≡ (has a i && has b i)
+both_has a b i = bit_both ((a / 2 ^ i) % 2) ((b / 2 ^ i) % 2) (bit_at (bit_and a b) i) (omega arith) (omega arith) (bit_at_and a b i)
 
 pub word_same : (f g : ℕ → Bool) (n : ℕ) → ((i : ℕ) → i < n → f i ≡ g i) → word_of f n ≡ word_of g n
 unfolding word_of

@@ -1,5 +1,5 @@
 -- The active jobs of an instant by their keys, and which of them run.
-use Rattle.std.specs.Prelude.{◌≡◌, ℕ, ◌-◌, ◌%◌, ◌<◌, ◌≤◌, Bool, true, false, cond, ◌&&◌, List, is_some, Some, None, Option, nat_lt, slice_index}
+use Rattle.std.specs.Prelude.{◌≡◌, ℕ, ◌-◌, ◌%◌, ◌<◌, Bool, true, false, cond, ◌&&◌, List, is_some, Some, None, Option, nat_lt, slice_index}
 use Rattle.schedule.specs.Counting.{count_below}
 use Rattle.task.specs.declared.entry.Entry.{Entry}
 use Rattle.policy.specs.Ages.{age_of}
@@ -35,10 +35,6 @@ Asking at set released t =
     (i : ℕ) → i < 32 → has set i ≡ true
     → (is_some (at i) ≡ true) × (since (slice_index released i) t ≡ age_of (at i) t)
 
--- every job of the set was released by t
-abbrev pub Begun : (set : ℕ) (released : List ℕ) (t : ℕ) → Type 0
-Begun set released t = (i : ℕ) → i < 32 → has set i ≡ true → slice_index released i ≤ t
-
 -- at t, the set is that of the active jobs, and their ages count from the instants in the list
 pub record Known (at : ℕ → Option Entry) (left : List ℕ) (set : ℕ) (released : List ℕ) (t : ℕ) : Type 0 where
   pub set_is : set ≡ word_of (is_active at left) 32
@@ -52,12 +48,3 @@ ahead_of le (Some a) j k i = stands_before le a j k i
 -- how many active jobs stand before task i's, of key k
 abbrev pub count_ahead : {K : Type 0} → (K → K → Bool) → (ℕ → Option K) → K → ℕ → ℕ
 count_ahead le jobs k i = count_below 32 (λ j. ahead_of le (jobs j) j k i)
-
--- the same of the key at i: there is a job, and fewer than m active jobs stand before it
-abbrev pub runs_at : {K : Type 0} → (K → K → Bool) → (ℕ → Option K) → (m i : ℕ) → Option K → Bool
-runs_at le jobs m i None = false
-runs_at le jobs m i (Some k) = nat_lt (count_ahead le jobs k i) m
-
--- task i's job is active, and fewer than m active jobs stand before it
-abbrev pub runs_of : {K : Type 0} → (K → K → Bool) → (ℕ → Option K) → (m i : ℕ) → Bool
-runs_of le jobs m i = runs_at le jobs m i (jobs i)

@@ -1,4 +1,4 @@
--- Policies, and the jobs of a slot, in the order in which to read them; the last three are proofs that a type and two impls name.
+-- Policies, and the jobs of a slot, in the order in which to read them; the last three are proofs that a type and three impls name.
 pub mod Order
 pub mod Keys
 pub mod Plans
@@ -9,5 +9,5 @@ pub mod Releases
 pub mod Dispatch
 pub mod Slots
 pub mod Settled
+pub mod Numbers
 pub mod Groups
-pub mod Deadlines

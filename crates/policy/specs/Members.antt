@@ -5,6 +5,10 @@ use Rattle.std.specs.Prelude.{◌≡◌, ℕ, zero, suc, ◌+◌, ◌-◌, ◌/�
 abbrev pub has : ℕ → ℕ → Bool
 has set i = (set / 2 ^ i) % 2 == 1
 
+-- every member of the one set is a member of the other
+abbrev pub Within : (a b : ℕ) → Type 0
+Within a b = (i : ℕ) → i < 32 → has a i ≡ true → has b i ≡ true
+
 -- r is the lowest member of the set from `low` on, or 32 where there is none
 pub record NextIn (set low r : ℕ) : Type 0 where
   pub within : r ≤ 32

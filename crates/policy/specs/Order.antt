@@ -1,14 +1,10 @@
 -- The order of jobs by their keys, under a relation "at or before" on keys.
-use Rattle.std.specs.Prelude.{◌≡◌, ℕ, ◌+◌, Bool, true, false, not, ◌&&◌, ◌||◌, nat_lt}
+use Rattle.std.specs.Prelude.{ℕ, Bool, true, false, not, ◌&&◌, ◌||◌, nat_lt}
 
 -- Job i, of key a, stands before job j, of key b: a is at or before b and not the reverse, or each is at or before the
 -- other and i is the lower task number.
 abbrev pub stands_before : {K : Type 0} → (K → K → Bool) → K → ℕ → K → ℕ → Bool
 stands_before le a i b j = le a b && (not (le b a) || nat_lt i j)
-
--- The order of keys is steady: of two jobs that both grow a slot older, the one that was at or before the other stays so.
-abbrev pub SteadyKeys : {E K : Type 0} → (E → ℕ → K) → (K → K → Bool) → Type 0
-SteadyKeys keyed le = (d e : _) (a b : ℕ) → le (keyed d (a + 1)) (keyed e (b + 1)) ≡ le (keyed d a) (keyed e b)
 
 -- A first group before the others: of two keys in one group `le` decides.
 abbrev pub grouped : {K : Type 0} → (K → K → Bool) → Bool → K → Bool → K → Bool

@@ -1,12 +1,15 @@
 -- The jobs that ask for a slot under a policy, given by the keys and the order of its state, and which of them run.
-use Rattle.std.specs.Prelude.{◌≡◌, ℕ, ◌<◌, ◌≤◌, Bool, true, false, ◌⊎◌, List, Some, Option, IfSome, count_ones}
+use Rattle.std.specs.Prelude.{◌≡◌, ◌≢◌, ℕ, ◌+◌, ◌<◌, Bool, true, false, cond, List, Some, None, Option}
+use Rattle.schedule.specs.Counting.{count_below}
 use Rattle.schedule.specs.Schedule.{has_cpu}
 use Rattle.task.specs.declared.entry.Entry.{Entry}
 use Rattle.task.specs.Tables.{entry_at}
 use Rattle.policy.specs.declared.slot.Slot.{Slot}
-use Rattle.policy.specs.declared.dispatch.Job.{Job}
-use Rattle.policy.specs.declared.dispatch.Marks.{Marks}
-use Rattle.policy.specs.Dispatch.{set_job, runs_of, Begun, Known}
+use Rattle.policy.specs.declared.choosing.Job.{Job}
+use Rattle.policy.specs.declared.choosing.Contest.{Contest}
+use Rattle.policy.specs.Dispatch.{set_job, Known}
+use Rattle.policy.specs.Members.{has}
+use Rattle.policy.specs.Order.{stands_before}
 use Rattle.policy.specs.Plans.{plan_of}
 use Rattle.policy.specs.Sets.{left_of, word_of}
 
@@ -14,23 +17,34 @@ use Rattle.policy.specs.Sets.{left_of, word_of}
 abbrev pub keys_of : {P K : Type 0} → (P → Entry → ℕ → K) → Slot P → ℕ → Option K
 keys_of keyed s = set_job (keyed s.policy.now) (entry_at s.tasks.now) s.jobs s.released.now s.instant
 
--- a job is one of the slot's, with its key, and it runs or not, as told
-pub record Told {P K : Type 0} (keyed : P → Entry → ℕ → K) (le : P → K → K → Bool) (s : Slot P) (told : Bool) (job : Job K) : Type 0 where
-  pub place : job.place < 32
+-- of two jobs the one that the other stands before; the second, where there is no first
+abbrev pub later_of : {K : Type 0} → (K → K → Bool) → Option (Job K) → Job K → Job K
+later_of le None b = b
+later_of le (Some a) b = cond (stands_before le b.key b.place a.key a.place) a b
+
+-- a job is the last of a set's jobs below n: it is one of them, and each other one stands before it
+pub record LastOf {P K : Type 0} (keyed : P → Entry → ℕ → K) (le : P → K → K → Bool) (s : Slot P) (set n : ℕ) (job : Job K) : Type 0 where
+  pub place : job.place < n
+  pub member : has set job.place ≡ true
   pub key : keys_of keyed s job.place ≡ Some job.key
-  pub runs : runs_of (le s.policy.now) (keys_of keyed s) s.cpus job.place ≡ told
+  pub others : (i : ℕ) (k : K) → i < n → has set i ≡ true → i ≢ job.place → keys_of keyed s i ≡ Some k
+      → stands_before (le s.policy.now) k i job.key job.place ≡ true
 
--- the mark for a job that runs is on one that does, if on any, and that for a job that waits on one that does not
-pub record AreTold {P K : Type 0} (keyed : P → Entry → ℕ → K) (le : P → K → K → Bool) (s : Slot P) (marks : Marks K) : Type 0 where
-  pub running : IfSome marks.running (Told keyed le s true)
-  pub waiting : IfSome marks.waiting (Told keyed le s false)
+-- the last of them, if there are any
+abbrev pub LastTo : {P K : Type 0} → (P → Entry → ℕ → K) → (P → K → K → Bool) → Slot P → (set n : ℕ) → Option (Job K) → Type 0
+LastTo keyed le s set n None = (i : ℕ) → i < n → has set i ≡ false
+LastTo keyed le s set n (Some job) = LastOf keyed le s set n job
 
--- The jobs of the slot need not be chosen anew while none is released, finishes or comes to its deadline: there are CPUs for
--- all, or the policy is steady and each of them was released.
-abbrev pub FewOrSteady : {P : Type 0} → (P → Bool) → Slot P → Type 0
-FewOrSteady steady s =
-    (count_ones s.jobs ≤ s.cpus)
-    ⊎ ((steady s.policy.now ≡ true) × Begun s.jobs s.released.now s.instant)
+-- Of the slot's jobs below n, those of the set run: each of them stands before each of the others, there is a CPU for each of
+-- them, and where a CPU is free none of the others is left.
+pub record RunSoFar {P K : Type 0} (keyed : P → Entry → ℕ → K) (le : P → K → K → Bool) (s : Slot P) (n : ℕ) (c : Contest K) : Type 0 where
+  pub inside : (i : ℕ) → i < 32 → has c.set i ≡ true → (has s.jobs i ≡ true) × (i < n)
+  pub ahead : (i j : ℕ) (k l : K) → i < 32 → j < n → has c.set i ≡ true → has c.set j ≡ false → keys_of keyed s i ≡ Some k → keys_of keyed s j ≡ Some l
+      → stands_before (le s.policy.now) k i l j ≡ true
+  pub places : count_below 32 (has c.set) + c.free ≡ s.cpus
+  pub free : 0 < c.free → (i : ℕ) → i < n → has s.jobs i ≡ true → has c.set i ≡ true
+  pub last : LastTo keyed le s c.set 32 c.last
+  pub word : c.set < 4294967296
 
 -- the set is that of the jobs that run in the plan, whatever is left of each, where the slot's jobs and their ages are known
 abbrev pub Runs : {P K : Type 0} → (P → Entry → ℕ → K) → (P → K → K → Bool) → Slot P → ℕ → Type 0

@@ -1,7 +1,6 @@
 ghost use Rattle.std.specs.Prelude.{◌≡◌, true, int_le};
 ghost use Rattle.policy.specs.Keys.{time_to_deadline};
-ghost use Rattle.policy.specs.Deadlines.{deadline_steady};
-ghost use Rattle.std.proofs.Common.{rules};
+ghost use Rattle.policy.specs.Numbers.{int_total, int_transitive};
 
 use crate::policy::Policy;
 use task::task::Task;
@@ -17,20 +16,12 @@ impl Policy for Deadline {
 
     ghost precedes = { λ _. int_le };
 
-    ghost steady = { λ _. true };
+    ghost total = { λ _. int_total };
 
-    ghost total = { Prim.search rules };
-
-    ghost transitive = { Prim.search rules };
-
-    ghost stays = { λ _ _. deadline_steady };
+    ghost transitive = { λ _. int_transitive };
 
     fn key(&self, task: &Task, age: u32) -> i64 {
         i64::from(task.deadline()) - i64::from(age)
-    }
-
-    fn is_steady(&self) -> bool {
-        true
     }
 
     fn at_or_before(&self, a: &i64, b: &i64) -> bool {

@@ -1,6 +1,6 @@
 ghost use Rattle.std.specs.Prelude.{◌≡◌};
 ghost use Rattle.policy.specs.Keys.{is_heavy, heavy_key, heavy_first};
-ghost use Rattle.policy.specs.Groups.{grouped_total, grouped_transitive, grouped_steady};
+ghost use Rattle.policy.specs.Groups.{grouped_total, grouped_transitive};
 
 use crate::heavy::{HeavyFirst, Threshold, Weighed};
 use crate::policy::Policy;
@@ -22,23 +22,15 @@ impl<P: Policy> Policy for HeavyFirst<P> {
 
     ghost precedes = { λ s. heavy_first (P.Policy.precedes s.below) };
 
-    ghost steady = { λ s. P.Policy.steady s.below };
-
     ghost total = { λ p a b. grouped_total (P.Policy.precedes p.below) (P.Policy.total p.below) a.heavy a.below b.heavy b.below };
 
     ghost transitive = { λ p a b c. grouped_transitive (P.Policy.precedes p.below) (P.Policy.transitive p.below) a.heavy a.below b.heavy b.below c.heavy c.below };
-
-    ghost stays = { λ p h d e. grouped_steady (P.Policy.precedes p.below) (P.Policy.keyed p.below) (P.Policy.stays p.below h) (is_heavy p.threshold.a p.threshold.b d) (is_heavy p.threshold.a p.threshold.b e) d e };
 
     fn key(&self, task: &Task, age: u32) -> Weighed<P::Key> {
         Weighed {
             heavy: self.threshold.is_heavy(task),
             below: self.below.key(task, age),
         }
-    }
-
-    fn is_steady(&self) -> bool {
-        self.below.is_steady()
     }
 
     fn at_or_before(&self, a: &Weighed<P::Key>, b: &Weighed<P::Key>) -> bool {

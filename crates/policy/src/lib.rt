@@ -4,12 +4,16 @@
 
 /// How old a job is.
 pub mod age;
+/// The jobs of a slot that run, chosen from their keys.
+pub mod choosing;
 /// Earliest deadline first.
 pub mod deadline;
 /// Which jobs a slot runs.
 pub mod dispatch;
 /// Heavy-first: its threshold, its keys and the layer.
 pub mod heavy;
+/// The jobs that ran run on, where no other stands before one of them.
+pub mod keeping;
 /// Heavy-first is a policy.
 pub mod layer;
 /// What a policy is.

@@ -1,13 +1,11 @@
 ghost use Rattle.std.specs.Prelude.{◌≡◌, ℕ, Bool, true, ◌⊎◌};
 ghost use Rattle.task.specs.declared.entry.Entry.{Entry};
-ghost use Rattle.policy.specs.Order.{SteadyKeys};
 
 use task::task::Task;
 
 /// A policy: a key for each pair of a task and an age, and a relation "at or before" on keys. Asked for a key or for the
 /// order of two, it answers by these alone. Of two keys one is always at or before the other, and the relation goes on
-/// through a third. It says whether it is steady, and may say yes only where the order of two jobs stays as it is while both
-/// grow older.
+/// through a third.
 pub trait Policy {
     /// Keys may be of any kind.
     type Key: Drop;
@@ -15,8 +13,6 @@ pub trait Policy {
     ghost keyed: { Self → Entry → ℕ → Self.Key };
 
     ghost precedes: { Self → Self.Key → Self.Key → Bool };
-
-    ghost steady: { Self → Bool };
 
     /// The key of a job of the task, `age` slots after its release.
     fn key(&self, task: &Task, age: u32) -> Self::Key
@@ -26,14 +22,7 @@ pub trait Policy {
     fn at_or_before(&self, a: &Self::Key, b: &Self::Key) -> bool
         ensures { result ≡ precedes self.now a.now b.now };
 
-    /// Whether the policy is steady, so that the jobs that run need not be chosen anew in each slot. One that says no is asked
-    /// anew.
-    fn is_steady(&self) -> bool
-        ensures { result ≡ steady self.now };
-
     ghost total: { (p : Self) (a b : Self.Key) → (precedes p a b ≡ true) ⊎ (precedes p b a ≡ true) };
 
     ghost transitive: { (p : Self) (a b c : Self.Key) → precedes p a b ≡ true → precedes p b c ≡ true → precedes p a c ≡ true };
-
-    ghost stays: { (p : Self) → steady p ≡ true → SteadyKeys (keyed p) (precedes p) };
 }

@@ -1,6 +1,6 @@
 ghost use Rattle.std.specs.Prelude.{◌≡◌, true, refl, nat_le};
 ghost use Rattle.policy.specs.Keys.{rank_of};
-ghost use Rattle.std.proofs.Common.{rules};
+ghost use Rattle.policy.specs.Numbers.{nat_total, nat_transitive};
 
 use crate::policy::Policy;
 use task::task::Task;
@@ -16,20 +16,12 @@ impl Policy for Rank {
 
     ghost precedes = { λ _ a b. nat_le a b };
 
-    ghost steady = { λ _. true };
+    ghost total = { λ _. nat_total };
 
-    ghost total = { Prim.search rules };
-
-    ghost transitive = { Prim.search rules };
-
-    ghost stays = { λ _ _ _ _ _ _. refl };
+    ghost transitive = { λ _. nat_transitive };
 
     fn key(&self, task: &Task, _age: u32) -> u8 {
         task.rank()
-    }
-
-    fn is_steady(&self) -> bool {
-        true
     }
 
     fn at_or_before(&self, a: &u8, b: &u8) -> bool {

@@ -1,5 +1,5 @@
 -- Sums and counts below a number, term by term.
-use Rattle.std.proofs.Common.{◌≡◌, ℕ, zero, suc, ◌+◌, ◌*◌, ◌<◌, ◌≤◌, Bool, true, false, cond, ◌⊎◌, sym, refl, ap, ◌∙◌, inl, inr, ⊎_elim, le_antisymm, add-one, arith}
+use Rattle.std.proofs.Common.{◌≡◌, ◌≢◌, ℕ, zero, suc, ◌+◌, ◌*◌, ◌<◌, ◌≤◌, Bool, true, false, cond, ◌⊎◌, sym, refl, ap, ◌∙◌, inl, inr, ⊎_elim, le_antisymm, add-one, arith}
 use Rattle.std.proofs.lemmas.Bool.{cases_lt, cond-true, cond-false}
 use Rattle.schedule.specs.Counting.{sum_below, count_below}
 
@@ -75,6 +75,18 @@ count_lt (suc n) a b j l h no_a yes_b =
     (λ (k : n ≤ j).
     let e : n ≡ j = omega arith in
     omega (arith, cond-false {A = ℕ} (a n) 1 0 (ap a e ∙ no_a), cond-true {A = ℕ} (b n) 1 0 (ap b e ∙ yes_b), count_mono n a b (λ i q. h i (omega arith))))
+    (cases_lt j n)
+
+-- one number more passes
+pub count_one_more : (n : ℕ) (a b : ℕ → Bool) (j : ℕ) → j < n → ((i : ℕ) → i < n → i ≢ j → a i ≡ b i) → a j ≡ false → b j ≡ true → count_below n b ≡ count_below n a + 1
+unfolding sum_below
+count_one_more zero a b j l h no_a yes_b = absurd (omega arith)
+count_one_more (suc n) a b j l h no_a yes_b =
+    ⊎_elim
+    (λ (k : j < n). omega (arith, ap (λ x. cond {A = ℕ} x 1 0) (h n (omega arith) (λ e. omega arith)), count_one_more n a b j k (λ i q. h i (omega arith)) no_a yes_b))
+    (λ (k : n ≤ j).
+    let e : n ≡ j = omega arith in
+    omega (arith, cond-false {A = ℕ} (a n) 1 0 (ap a e ∙ no_a), cond-true {A = ℕ} (b n) 1 0 (ap b e ∙ yes_b), count_same n a b (λ i q. h i (omega arith) (λ f. omega arith))))
     (cases_lt j n)
 
 -- a longer count is no less

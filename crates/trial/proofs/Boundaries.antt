@@ -1,26 +1,44 @@
 -- How a slot ends: which jobs miss, and whether the new instant is a boundary.
-use Rattle.std.proofs.Common.{◌≡◌, ℕ, ◌+◌, ◌<◌, Bool, sym, ap, ◌∙◌, subst, arith}
+use Rattle.std.proofs.Common.{◌≡◌, ℕ, ◌+◌, ◌<◌, ◌≤◌, true, false, ◌&&◌, ltb, sym, ap, ◌∙◌, subst, ⊎_elim, arith}
+use Rattle.std.proofs.lemmas.Bool.{cases_Bool}
 use Rattle.schedule.specs.Plan.{Plan}
-use Rattle.policy.specs.Members.{NextIn}
+use Rattle.schedule.specs.Schedule.{deadline_at}
+use Rattle.policy.specs.Members.{has}
+use Rattle.policy.proofs.Each.{EachTo}
 use Rattle.policy.specs.Sets.{left_of, word_of}
 use Rattle.policy.proofs.Words.{word_has}
 use Rattle.trial.specs.declared.trial.Trial.{Trial}
 use Rattle.trial.specs.Slots.{Passes, Marked}
-use Rattle.trial.specs.Trials.{NonePasses, Lowest, Equal, Moved, Between, Passed, Repeated, Undecided, here, on}
+use Rattle.trial.specs.Trials.{NonePasses, Lowest, Equal, after_slot, missing, Moved, Between, Passed, Repeated, Undecided, here, on}
 
--- the lowest member of the word of those that pass is the lowest that passes
-pub none_passes : (test : ℕ → Bool) (word : ℕ) → word ≡ word_of test 32 → NextIn word 0 32 → NonePasses test
-none_passes test word e n i h = sym (word_has test word i e h) ∙ n.skipped i (omega arith) h
+-- Jobs that come to their deadlines, and those of them that miss: a loop along the former finds the lowest of the latter.
+module _ (p : Plan) (a : Trial) (due : ℕ) (is : due ≡ word_of (λ i. deadline_at p i (a.instant + 1)) 32) where
+  in_time : (i : ℕ) → i < 32 → has due i ≡ false → missing p a i ≡ false
+  in_time i h off = ap (λ x. x && ltb 0 (after_slot p a i)) (sym (word_has (λ i. deadline_at p i (a.instant + 1)) due i is h) ∙ off)
 
-pub lowest_passes : (test : ℕ → Bool) (word i : ℕ) → word ≡ word_of test 32 → NextIn word 0 i → i < 32 → Lowest test i
-lowest_passes test word i e n h = (h, sym (word_has test word i e h) ∙ n.member h, λ j l. sym (word_has test word j e (omega arith)) ∙ n.skipped j (omega arith) l)
+  up_to : (n : ℕ) → n ≤ 32 → EachTo due (λ k. missing p a k ≡ false) n → (i : ℕ) → i < n → missing p a i ≡ false
+  up_to n top each i l =
+      ⊎_elim
+      (λ (on : has due i ≡ true). each i l on)
+      (λ (off : has due i ≡ false). in_time i (omega arith) off)
+      (cases_Bool (has due i))
+
+  module _ (missed : ℕ) (tells : (i : ℕ) → i < 32 → has due i ≡ true → has missed i ≡ missing p a i) where
+    in_time_to : (n : ℕ) → n ≤ 32 → EachTo due (λ k. has missed k ≡ false) n → EachTo due (λ k. missing p a k ≡ false) n
+    in_time_to n top each k l there = sym (tells k (omega arith) there) ∙ each k l there
+
+    pub none_misses : (n : ℕ) → n ≡ 32 → EachTo due (λ k. has missed k ≡ false) n → NonePasses (missing p a)
+    none_misses n all each i h = up_to n (omega arith) (in_time_to n (omega arith) each) i (omega arith)
+
+    pub lowest_misses : (i n : ℕ) → n ≡ i → i < 32 → has due i ≡ true → EachTo due (λ k. has missed k ≡ false) n → has missed i ≡ true → Lowest (missing p a) i
+    lowest_misses i n at h there each late = (h, sym (tells i h there) ∙ late, λ j l. up_to n (omega arith) (in_time_to n (omega arith) each) j (omega arith))
 
 -- after n undecided slots
 pub undecided_at : (p : Plan) (a : Trial) {b : Trial} {n : ℕ} → Undecided p a n b → b.instant ≡ a.instant + n
 undecided_at p a here = omega arith
 undecided_at p a (on ch mv told) = omega (arith, undecided_at p a ch, mv.later)
 
-module _ (p : Plan) (a : Trial) (missed : ℕ) (b : Trial) (s : Passes p a missed b) where
+module _ (p : Plan) (a : Trial) (due : ℕ) (b : Trial) (s : Passes p a due b) where
   pub between_now : (b.instant ≡ b.next → ⊥) → Between a b
   between_now ne =
       record {

@@ -1,6 +1,6 @@
 -- An event, place by place: rules 1 and 2, the latest releases, and until when nothing happens after it.
-use Rattle.std.proofs.Common.{◌≡◌, ◌≢◌, ℕ, ◌+◌, ◌-◌, ◌*◌, ◌<◌, ◌≤◌, true, false, cond, ◌⊎◌, ◌&&◌, ltb, List, get_or, min, is_some, Option, sym, refl, ap, ap₂, ◌∙◌, subst, inl, inr, ⊎_elim, arith}
-use Rattle.std.proofs.lemmas.Bool.{cases_Bool, cases_eq, cases_lt, ltb-false}
+use Rattle.std.proofs.Common.{◌≡◌, ◌≢◌, ℕ, ◌+◌, ◌-◌, ◌*◌, ◌<◌, ◌≤◌, false, cond, ◌⊎◌, ◌&&◌, ltb, List, get_or, min, is_some, Option, sym, refl, ap, ap₂, ◌∙◌, subst, inl, inr, ⊎_elim, arith}
+use Rattle.std.proofs.lemmas.Bool.{cases_eq, cases_lt}
 use Rattle.task.specs.declared.entry.Entry.{Entry}
 use Rattle.policy.specs.Dispatch.{is_active}
 use Rattle.policy.specs.Members.{has}
@@ -9,7 +9,7 @@ use Rattle.policy.specs.Releases.{Latest}
 use Rattle.policy.specs.Sets.{left_of}
 use Rattle.trial.specs.declared.calendar.Calendar.{Calendar}
 use Rattle.trial.specs.Calendars.{Awaits, Arrived, Stays, InGroup, Soonest}
-use Rattle.trial.specs.Places.{NoRelease, is_due, opens, misses, Calm, CalmUntil}
+use Rattle.trial.specs.Places.{opens, misses, Calm, CalmUntil}
 use Rattle.trial.proofs.Watching.{stays}
 
 -- where an instant is calm, rules 1 and 2 leave a job as it is, and it does not miss
@@ -19,22 +19,12 @@ calm_opens o t r q = sym (ap₂ (λ x y. cond x (time_of o) (cond y 0 r)) q.no_r
 calm_misses : (o : Option Entry) (t r : ℕ) → Calm o t → misses o t r ≡ false
 calm_misses o t r q = ap (λ x. x && ltb 0 r) q.no_deadline
 
--- and so where no job is released and none misses
-pub none_opens : (o : Option Entry) (t r : ℕ) → NoRelease o t → misses o t r ≡ false → opens o t r ≡ r
-none_opens o t r none kept =
-    ⊎_elim
-    (λ (due : is_due o t ≡ true).
-    let gone : r ≡ 0 = omega (arith, ltb-false 0 r (sym (ap (λ x. x && ltb 0 r) due) ∙ kept)) in
-    ap₂ (λ x y. cond x (time_of o) (cond y 0 r)) none due ∙ sym gone)
-    (λ (not : is_due o t ≡ false). ap₂ (λ x y. cond x (time_of o) (cond y 0 r)) none not)
-    (cases_Bool (is_due o t))
-
 -- 1. a place that is as it was, where at most the first events of the groups are new
 abbrev pub with_soonest : Calendar → List ℕ → Calendar
-with_soonest c soonest = record { released = c.released; events = c.events; soonest = soonest; active = c.active; missed = c.missed; fresh = c.fresh }
+with_soonest c soonest = record { released = c.released; events = c.events; soonest = soonest; active = c.active; due = c.due; missed = c.missed }
 
 pub only_soonest : (c : Calendar) (soonest left : List ℕ) (i : ℕ) → Stays c left (with_soonest c soonest) left i
-only_soonest c soonest left i = record { released_kept = refl; events_kept = refl; left_kept = refl; active_kept = refl; missed_kept = refl; none_fresh = λ f. f }
+only_soonest c soonest left i = record { released_kept = refl; events_kept = refl; left_kept = refl; active_kept = refl; due_kept = refl; missed_kept = refl }
 
 pub none_changed : (c : Calendar) (left : List ℕ) (i : ℕ) → Stays c left c left i
 none_changed c left i = only_soonest c c.soonest left i
@@ -47,8 +37,8 @@ module _ (c d : Calendar) (left end : List ℕ) (i : ℕ) (s : Stays c left d en
         events_kept = s.events_kept ∙ r.events_kept;
         left_kept = s.left_kept ∙ r.left_kept;
         active_kept = s.active_kept ∙ r.active_kept;
+        due_kept = s.due_kept ∙ r.due_kept;
         missed_kept = s.missed_kept ∙ r.missed_kept;
-        none_fresh = λ f. r.none_fresh (s.none_fresh f);
       }
 
   module _ (at : ℕ → Option Entry) (t : ℕ) where
@@ -71,14 +61,14 @@ module _ (c d : Calendar) (left end : List ℕ) (i : ℕ) (s : Stays c left d en
           calm = subst (CalmUntil (at i) t) (sym s.events_kept) a.calm;
           left_is = s.left_kept ∙ a.left_is;
           active_is = same_active a.active_is;
+          due_is = s.due_kept ∙ a.due_is;
           missed_is = s.missed_kept ∙ a.missed_is;
-          fresh_is = λ f. a.fresh_is (s.none_fresh f);
         }
 
 module _ (at : ℕ → Option Entry) (t : ℕ) where
   -- 2. a place without an event
-  pub passes_by : 0 < t → (c : Calendar) (left : List ℕ) (i : ℕ) → Awaits at t c left i → has c.missed i ≡ false → t < get_or c.events i 0 → Arrived at t (left_of left i) c left i
-  passes_by on c left i a none l =
+  pub passes_by : 0 < t → (c : Calendar) (left : List ℕ) (i : ℕ) → Awaits at t c left i → has c.due i ≡ false → has c.missed i ≡ false → t < get_or c.events i 0 → Arrived at t (left_of left i) c left i
+  passes_by on c left i a none_due none l =
       let now : (t - 1) + 1 ≡ t = omega arith in
       let calm : Calm (at i) t = a.calm t (omega arith) l in
       record {
@@ -87,8 +77,8 @@ module _ (at : ℕ → Option Entry) (t : ℕ) where
         calm = λ v m n. a.calm v (omega arith) n;
         left_is = calm_opens (at i) t (left_of left i) calm;
         active_is = a.active_is;
+        due_is = none_due ∙ sym calm.no_deadline;
         missed_is = none ∙ sym (calm_misses (at i) t (left_of left i) calm);
-        fresh_is = λ f. calm.no_release;
       }
 
   -- 3. the places of a group, one after another: what is so of those before i
@@ -117,10 +107,10 @@ module _ (at : ℕ → Option Entry) (t : ℕ) where
       pub awaits_here : Awaits at t b was i → Awaits at t c left i
       awaits_here a = awaits_still b c was left i unchanged at t a
 
-      pub quiet_here : 0 < t → Awaits at t b was i → has b.missed i ≡ false → t < get_or c.events i 0 → Arrived at t (left_of was i) c left i
-      quiet_here on a none l =
+      pub quiet_here : 0 < t → Awaits at t b was i → has b.due i ≡ false → has b.missed i ≡ false → t < get_or c.events i 0 → Arrived at t (left_of was i) c left i
+      quiet_here on a none_due none l =
           let same : left_of left i ≡ left_of was i = unchanged.left_kept in
-          subst (λ r. Arrived at t r c left i) same (passes_by on c left i (awaits_here a) (unchanged.missed_kept ∙ none) l)
+          subst (λ r. Arrived at t r c left i) same (passes_by on c left i (awaits_here a) (unchanged.due_kept ∙ none_due) (unchanged.missed_kept ∙ none) l)
 
       pub arrives_here : (d : Calendar) (end : List ℕ) → Arrived at t (left_of left i) d end i → Arrived at t (left_of was i) d end i
       arrives_here d end a = subst (λ r. Arrived at t r d end i) unchanged.left_kept a
@@ -173,15 +163,18 @@ module _ (at : ℕ → Option Entry) (t : ℕ) where
       pub group_missed : ((i : ℕ) → has b.missed i ≡ false) → (i : ℕ) → InGroup g i → has c.missed i ≡ false
       group_missed none i h = (unswept i h).missed_kept ∙ none i
 
+      pub group_due : ((i : ℕ) → has b.due i ≡ false) → (i : ℕ) → InGroup g i → has c.due i ≡ false
+      group_due none i h = (unswept i h).due_kept ∙ none i
+
       pub group_left : (i : ℕ) → InGroup g i → left_of left i ≡ left_of was i
       group_left i h = (unswept i h).left_kept
 
       -- a group with no event
-      pub group_passed_by : 0 < t → ((i : ℕ) → i < 32 → Awaits at t b was i) → ((i : ℕ) → has b.missed i ≡ false) → t < get_or c.soonest g 0
+      pub group_passed_by : 0 < t → ((i : ℕ) → i < 32 → Awaits at t b was i) → ((i : ℕ) → has b.due i ≡ false) → ((i : ℕ) → has b.missed i ≡ false) → t < get_or c.soonest g 0
           → (i : ℕ) → InGroup g i → Arrived at t (left_of was i) c left i
-      group_passed_by on a none l i h =
+      group_passed_by on a none_due none l i h =
           subst (λ r. Arrived at t r c left i) (group_left i h)
-          (passes_by on c left i (group_awaits a i h) (group_missed none i h) (omega (arith, l, q.soon g low i h)))
+          (passes_by on c left i (group_awaits a i h) (group_due none_due i h) (group_missed none i h) (omega (arith, l, q.soon g low i h)))
 
       module _ (d : Calendar) (end : List ℕ) (here : (i : ℕ) → InGroup g i → Arrived at t (left_of was i) d end i)
           (rest : (i : ℕ) → i < 32 → (InGroup g i → ⊥) → Stays c left d end i)

@@ -5,7 +5,7 @@ pub mod Slotwise
 pub mod Watching
 pub mod Giving
 pub mod Grouping
-pub mod Lasting
+pub mod Finishing
 pub mod Boundaries
 pub mod Tasks
 pub mod Standing

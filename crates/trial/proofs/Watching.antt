@@ -1,19 +1,16 @@
 -- What a watch says goes on through a calm instant, and where the trial stays.
-use Rattle.std.proofs.Common.{◌≡◌, ℕ, zero, suc, ◌+◌, ◌-◌, ◌/◌, ◌<◌, ◌≤◌, true, List, get_or, Some, None, Option, sym, refl, ap, ◌∙◌, subst, ⊎_elim, arith}
+use Rattle.std.proofs.Common.{◌≡◌, ℕ, zero, suc, ◌+◌, ◌-◌, ◌/◌, ◌<◌, ◌≤◌, List, get_or, Some, None, Option, sym, ap, ◌∙◌, subst, ⊎_elim, arith}
 use Rattle.std.proofs.lemmas.Bool.{both_ways, cases_lt}
-use Rattle.schedule.specs.Plan.{Plan}
-use Rattle.schedule.specs.Schedule.{has_cpu}
 use Rattle.task.specs.declared.entry.Entry.{Entry}
 use Rattle.task.specs.declared.task.Task.{Task}
 use Rattle.task.specs.Tables.{entry_at}
 use Rattle.policy.specs.Dispatch.{is_active}
 use Rattle.policy.specs.Releases.{Released, Latest}
-use Rattle.policy.specs.Sets.{left_of, word_of}
 use Rattle.trial.specs.declared.trial.Trial.{Trial}
 use Rattle.trial.specs.declared.watch.Watch.{Watch}
 use Rattle.trial.specs.Calendars.{InGroup}
 use Rattle.trial.specs.Places.{releases, Calm}
-use Rattle.trial.specs.Slots.{Lasts, RunsOn, Watched, Chosen, Marked}
+use Rattle.trial.specs.Slots.{Watched, Marked}
 use Rattle.trial.proofs.Ages.{release_again}
 
 goes_on : (e : Entry) (t b : ℕ) → Released e t b → Calm (Some e) (t + 1) → Released e (t + 1) b
@@ -59,40 +56,13 @@ calm_before w i h = let g : i / 8 < 4 = omega arith in omega (arith, w.soonest (
 pub latest_before : (w : Watch) (i t : ℕ) → i < 32 → w.since ≤ t → t < w.calm → Latest (entry_at w.tasks.now i) t (get_or w.calendar.released i 0)
 latest_before w i t h l m = stays_until (entry_at w.tasks.now i) w.since t (get_or w.calendar.released i 0) l (w.latest i h) (λ v p q. w.calm_is i h v p (omega (arith, calm_before w i h)))
 
--- where the jobs that ran run on, none need be chosen
-pub unchosen : (p : Plan) (tasks : List (Option Task)) (a : Trial) (w : Watch) → Watched p tasks a w → w.lasts ≡ true → Chosen p a w a w
-unchosen p tasks a w s l =
-    let on = s.runs_on l in
-    record {
-      trial = refl;
-      watch = record { instants = record { tasks_kept = refl; released_kept = refl; since_kept = refl; calm_kept = refl }; active_kept = refl };
-      ran_is = on.ran_is;
-      lasts = λ _. on.lasts;
-    }
-
-pub chosen_same : (p : Plan) (a : Trial) (v : Watch) (b d : Trial) (w u : Watch) → Chosen p a v d u → b ≡ d → w ≡ u → Chosen p a v b w
-chosen_same p a v b d w u ch e f = subst (λ (y : Trial). Chosen p a v y w) (sym e) (subst (Chosen p a v d) (sym f) ch)
-
--- where the trial stays, its jobs run on
-still_runs : (p : Plan) (a b : Trial) → RunsOn p a → Marked a b → RunsOn p b
-still_runs p a b r k =
-    let word : ℕ → ℕ → List ℕ → ℕ = λ m t c. word_of (has_cpu p m t (left_of c)) 32 in
-    let same : word a.cpus a.instant a.left ≡ word b.cpus b.instant b.left =
-    ap (λ m. word m a.instant a.left) (sym k.cpus_kept) ∙ (ap (λ t. word b.cpus t a.left) (sym k.instant_kept) ∙ ap (word b.cpus b.instant) (sym k.left_kept)) in
-    let L₁ : ℕ → Type 0 = λ m. Lasts p m a.instant (left_of a.left) in
-    let L₂ : ℕ → Type 0 = λ t. Lasts p b.cpus t (left_of a.left) in
-    let L₃ : List ℕ → Type 0 = λ c. Lasts p b.cpus b.instant (left_of c) in
-    record {
-      ran_is = k.ran_kept ∙ (r.ran_is ∙ same);
-      lasts = subst L₃ (sym k.left_kept) (subst L₂ (sym k.instant_kept) (subst L₁ (sym k.cpus_kept) r.lasts));
-    }
-
-pub watched_still : (p : Plan) (tasks : List (Option Task)) (a b : Trial) (w : Watch) → Watched p tasks a w → Marked a b → Watched p tasks b w
-watched_still p tasks a b w s k =
+-- where the trial stays, it is watched still
+pub watched_still : (tasks : List (Option Task)) (a b : Trial) (w : Watch) → Watched tasks a w → Marked a b → Watched tasks b w
+watched_still tasks a b w s k =
     record {
       tasks_are = s.tasks_are;
       begun = omega (arith, s.begun, k.instant_kept);
       not_over = omega (arith, s.not_over, k.instant_kept);
-      runs_on = λ h. still_runs p a b (s.runs_on h) k;
       active_is = λ i h. s.active_is i h ∙ ap (λ xs. is_active (entry_at tasks) xs i) (sym k.left_kept);
+      few_are = λ h. omega (arith, s.few_are h, k.cpus_kept);
     }

@@ -1,21 +1,8 @@
-ghost use Rattle.std.specs.Prelude.{◌≡◌, ℕ, ◌<◌, cond, ◌==◌};
-ghost use Rattle.policy.specs.Members.{has};
+ghost use Rattle.std.specs.Prelude.{◌≡◌};
 ghost use Rattle.policy.specs.Sets.{word_of};
 ghost use Rattle.trial.specs.Slots.{is_finished};
 
 use policy::walk::members_of;
-
-/// The set of tasks with task `i` in it, or without it.
-pub(crate) fn placed(set: u32, i: usize, member: bool) -> u32
-    requires { i < 32 }
-    ensures { (k : ℕ) → k < 32 → has result k ≡ cond (k == i) member (has set k) }
-{
-    if member {
-        set | (1 << i)
-    } else {
-        set & !(1 << i)
-    }
-}
 
 /// The jobs of the set `ran` that have nothing left, a bit for each task.
 pub(crate) fn finished_jobs(left: &[u16; 32], ran: u32) -> u32

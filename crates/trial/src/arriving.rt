@@ -10,10 +10,10 @@ use task::task::Task;
 /// What comes of a place at an event.
 #[derive(Drop)]
 pub(crate) struct Arrival {
-    /// Whether the place's job misses its deadline.
+    /// Whether a job of the place's task comes to its deadline.
+    pub(crate) due: bool,
+    /// Whether that job misses it.
     pub(crate) late: bool,
-    /// Whether a job is released.
-    pub(crate) fresh: bool,
     /// What is left of its job then.
     pub(crate) left: u16,
     /// Whether its job is active then.
@@ -41,8 +41,8 @@ pub(crate) fn arrive_at(place: &Option<Task>, released: u64, instant: u64, left:
             let renewed = turn.renewed();
             let opened = turn.opens(left);
             Arrival {
+                due: turn.is_deadline(),
                 late: turn.misses(left),
-                fresh: turn.is_release(),
                 left: opened,
                 active: opened > 0,
                 released: renewed,
@@ -50,8 +50,8 @@ pub(crate) fn arrive_at(place: &Option<Task>, released: u64, instant: u64, left:
             }
         }
         None => Arrival {
+            due: false,
             late: false,
-            fresh: false,
             left,
             active: false,
             released,

@@ -4,13 +4,13 @@ ghost use Rattle.policy.specs.Dispatch.{is_active};
 ghost use Rattle.policy.specs.Members.{has};
 ghost use Rattle.policy.specs.Releases.{Latest};
 ghost use Rattle.policy.specs.Sets.{left_of, word_of};
-ghost use Rattle.trial.specs.Places.{misses};
+ghost use Rattle.trial.specs.Places.{is_due};
 ghost use Rattle.trial.specs.Calendars.{Awaits, Arrived, Stays, InGroup, Soonest};
 
-use crate::active::placed;
 use crate::arriving::arrive_at;
 use policy::dispatch::active_set;
 use policy::release::latest_releases;
+use policy::sets::placed;
 use task::task::Task;
 
 /// What is kept of each place from event to event: an event is an instant at which a job is released or comes to its
@@ -26,10 +26,10 @@ pub(crate) struct Calendar {
     pub(crate) soonest: [u64; 4],
     /// The active jobs, a bit for each task.
     pub(crate) active: u32,
-    /// The jobs that missed their deadlines at the latest event, a bit for each task.
+    /// The tasks with a job that came to its deadline at the latest event, a bit for each.
+    pub(crate) due: u32,
+    /// Those of them whose jobs missed it, a bit for each task.
     pub(crate) missed: u32,
-    /// Whether a job was released then.
-    pub(crate) fresh: bool,
 }
 
 impl Calendar {
@@ -46,8 +46,8 @@ impl Calendar {
             events: [t + 1; 32],
             soonest: [t + 1; 4],
             active: active_set(tasks, left),
+            due: 0,
             missed: 0,
-            fresh: false,
         }
     }
 
@@ -66,10 +66,8 @@ impl Calendar {
         self.released[i] = arrival.released;
         self.events[i] = arrival.event;
         self.active = placed(self.active, i, arrival.active);
+        self.due = placed(self.due, i, arrival.due);
         self.missed = placed(self.missed, i, arrival.late);
-        if arrival.fresh {
-            self.fresh = true;
-        }
     }
 
     /// Rules 1 and 2 at `t` for the places of a group.
@@ -78,6 +76,7 @@ impl Calendar {
         requires early { t ≤ 1000000000000000 }
         requires later { 0 < t }
         requires awaits { (i : ℕ) → InGroup g i → Awaits (entry_at tasks.now) t self.old left.old i }
+        requires none_due { (i : ℕ) → InGroup g i → has self.old.due i ≡ false }
         requires none_missed { (i : ℕ) → InGroup g i → has self.old.missed i ≡ false }
         ensures arrived { (i : ℕ) → InGroup g i → Arrived (entry_at tasks.now) t (left_of left.old i) self.new left.new i }
         ensures others { (i : ℕ) → i < 32 → (InGroup g i → ⊥) → Stays self.old left.old self.new left.new i }
@@ -95,7 +94,7 @@ impl Calendar {
         self.soonest[g] = soonest;
     }
 
-    /// Rules 1 and 2 at `t` for every place. Answers the tasks whose jobs miss their deadlines there, a bit for each.
+    /// Rules 1 and 2 at `t` for every place. Answers the tasks with a job that comes to its deadline there, a bit for each.
     pub(crate) fn arrive(&mut self, tasks: &[Option<Task>; 32], t: u64, left: &mut [u16; 32]) -> u32
         requires early { t ≤ 1000000000000000 }
         requires later { 0 < t }
@@ -104,16 +103,16 @@ impl Calendar {
         ensures arrived { (i : ℕ) → i < 32 → Arrived (entry_at tasks.now) t (left_of left.old i) self.new left.new i }
         ensures soonest { (g : ℕ) → g < 4 → Soonest self.new.soonest self.new.events g }
         ensures later { (g : ℕ) → g < 4 → t < slice_index self.new.soonest g }
-        ensures missed { result ≡ word_of (λ i. misses (entry_at tasks.now i) t (left_of left.old i)) 32 }
+        ensures due { result ≡ word_of (λ i. is_due (entry_at tasks.now i) t) 32 }
     {
+        self.due = 0;
         self.missed = 0;
-        self.fresh = false;
         for g in 0..4 {
             if self.soonest[g] <= t {
                 self.arrive_group(tasks, t, g, left);
             }
         }
-        self.missed
+        self.due
     }
 
     /// The next event.

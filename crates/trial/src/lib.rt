@@ -2,7 +2,7 @@
 
 #![tactic(auto)]
 
-/// Sets of jobs that a slot or an event changes.
+/// The jobs that a slot finishes.
 pub mod active;
 /// What an event makes of a place.
 pub mod arriving;

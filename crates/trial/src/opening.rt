@@ -30,7 +30,7 @@ impl<'a> Turn<'a> {
     }
 
     /// Whether a job of the task comes to its deadline.
-    fn is_deadline(&self) -> bool
+    pub(crate) fn is_deadline(&self) -> bool
         ensures { result ≡ is_due (Some self.now.task.now.figures) self.now.instant }
     {
         self.released < self.instant

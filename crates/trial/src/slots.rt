@@ -1,10 +1,12 @@
-ghost use Rattle.std.specs.Prelude.{◌≡◌, ℕ, ◌<◌, ◌≤◌, true, Decides};
+ghost use Rattle.std.specs.Prelude.{◌≡◌, ℕ, ◌<◌, ◌≤◌, true, Decides, count_ones};
+ghost use Rattle.schedule.specs.Schedule.{has_cpu};
 ghost use Rattle.task.specs.Tables.{entry_at};
 ghost use Rattle.policy.specs.Plans.{plan_of};
 ghost use Rattle.policy.specs.Dispatch.{is_active};
 ghost use Rattle.policy.specs.Members.{has};
-ghost use Rattle.trial.specs.Trials.{Equal, Runs};
-ghost use Rattle.trial.specs.Slots.{Chosen, SameInstants, NoneFinished, Watched, Ticked, Passes, Marked};
+ghost use Rattle.policy.specs.Sets.{left_of, word_of};
+ghost use Rattle.trial.specs.Trials.{Equal, missing, Runs};
+ghost use Rattle.trial.specs.Slots.{SameInstants, Watched, Ticked, Passes, Marked};
 
 use crate::active::finished_jobs;
 use crate::calendar::Calendar;
@@ -20,11 +22,15 @@ use task::task::Task;
 pub const LAST_INSTANT: u64 = 1_000_000_000_000_000;
 
 impl Trial {
-    /// Chooses the jobs that run in the slot from the trial's instant.
-    fn choose<P: Policy>(&mut self, policy: &P, watch: &mut Watch)
-        requires { Watched (plan_of (P.Policy.keyed policy.now) (P.Policy.precedes policy.now) (entry_at watch.old.tasks.now)) watch.old.tasks.now self.old watch.old }
-        ensures { Chosen (plan_of (P.Policy.keyed policy.now) (P.Policy.precedes policy.now) (entry_at watch.old.tasks.now)) self.old watch.old self.new watch.new }
+    /// The jobs that run in the slot from the trial's instant, a bit for each task. Where there are CPUs for all active jobs the
+    /// policy is asked nothing.
+    fn choose<P: Policy>(&self, policy: &P, watch: &Watch) -> u32
+        requires { Watched watch.now.tasks.now self.now watch.now }
+        ensures { result ≡ word_of (has_cpu (plan_of (P.Policy.keyed policy.now) (P.Policy.precedes policy.now) (entry_at watch.now.tasks.now)) self.now.cpus self.now.instant (left_of self.now.left)) 32 }
     {
+        if watch.few {
+            return watch.active();
+        }
         let slot = Slot {
             policy,
             tasks: watch.tasks,
@@ -33,43 +39,41 @@ impl Trial {
             instant: self.instant,
             cpus: self.cpus,
         };
-        self.ran = slot.running();
-        watch.lasts = slot.lasts();
+        slot.running(self.ran)
     }
 
     /// Rule 3: the slot from the trial's instant.
     fn tick<P: Policy>(&mut self, policy: &P, watch: &mut Watch)
         requires instant { self.old.instant < 1000000000000000 }
-        requires watched { Watched (plan_of (P.Policy.keyed policy.now) (P.Policy.precedes policy.now) (entry_at watch.old.tasks.now)) watch.old.tasks.now self.old watch.old }
+        requires watched { Watched watch.old.tasks.now self.old watch.old }
         ensures ticked { Ticked (plan_of (P.Policy.keyed policy.now) (P.Policy.precedes policy.now) (entry_at watch.old.tasks.now)) self.old self.new }
         ensures watch { SameInstants watch.old watch.new }
         ensures active { (i : ℕ) → i < 32 → has watch.new.calendar.active i ≡ is_active (entry_at watch.old.tasks.now) self.new.left i }
-        ensures lasts { watch.new.lasts ≡ true → NoneFinished (plan_of (P.Policy.keyed policy.now) (P.Policy.precedes policy.now) (entry_at watch.old.tasks.now)) self.old self.new }
+        ensures few { watch.new.few ≡ true → count_ones watch.new.calendar.active ≤ self.old.cpus }
     {
-        if !watch.lasts {
-            self.choose(policy, watch);
-        }
+        self.ran = self.choose(policy, watch);
         if work(&mut self.left, self.ran) {
             watch.calendar.active &= !finished_jobs(&self.left, self.ran);
-            watch.lasts = false;
+            watch.few = watch.fits(self.cpus);
         }
         self.instant += 1;
     }
 
-    /// One slot and the instant after it. Answers the tasks that miss there, a bit for each.
+    /// One slot and the instant after it. Answers the tasks with a job that comes to its deadline there, a bit for each.
     fn pass<P: Policy>(&mut self, policy: &P, watch: &mut Watch) -> u32
         requires instant { self.old.instant < 1000000000000000 }
-        requires watched { Watched (plan_of (P.Policy.keyed policy.now) (P.Policy.precedes policy.now) (entry_at watch.old.tasks.now)) watch.old.tasks.now self.old watch.old }
+        requires watched { Watched watch.old.tasks.now self.old watch.old }
         ensures passes { Passes (plan_of (P.Policy.keyed policy.now) (P.Policy.precedes policy.now) (entry_at watch.old.tasks.now)) self.old result self.new }
-        ensures watched { Watched (plan_of (P.Policy.keyed policy.now) (P.Policy.precedes policy.now) (entry_at watch.old.tasks.now)) watch.old.tasks.now self.new watch.new }
+        ensures missed { (i : ℕ) → i < 32 → has result i ≡ true → has watch.new.calendar.missed i ≡ missing (plan_of (P.Policy.keyed policy.now) (P.Policy.precedes policy.now) (entry_at watch.old.tasks.now)) self.old i }
+        ensures watched { Watched watch.old.tasks.now self.new watch.new }
     {
         self.tick(policy, watch);
         if self.instant < watch.calm {
             return 0;
         }
-        let missed = watch.arrive(&mut self.left);
-        watch.lasts = watch.lasts_on(missed);
-        missed
+        let due = watch.arrive(&mut self.left);
+        watch.few = watch.fits(self.cpus);
+        due
     }
 
     /// Whether what is left is what was left at the latest boundary.
@@ -103,15 +107,16 @@ impl Trial {
             calendar: Calendar::new(tasks, self.instant, &self.left),
             since: self.instant,
             calm: self.instant + 1,
-            lasts: false,
+            few: false,
         };
         let most = (LAST_INSTANT - self.instant).min(u64::from(n));
         'slots: for _ in 0..most {
-            let missed = self.pass(policy, &mut watch);
-            // stays: a listed form (docs/DECISIONS.md, Language forms), an inner loop that leaves the outer one by its label.
-            for i in members_of(missed) {
-                outcome = Outcome::Missed(i as u8);
-                break 'slots;
+            let due = self.pass(policy, &mut watch);
+            for i in members_of(due) {
+                if watch.missed(i) {
+                    outcome = Outcome::Missed(i as u8);
+                    break 'slots;
+                }
             }
             if self.instant == self.next {
                 if u64::from(self.start) < self.next && self.agrees() {

@@ -1,7 +1,7 @@
 use Rattle.std.proofs.Common.{◌≡◌, ℕ, ◌≢◌, ◌+◌, ◌-◌, ◌<◌, false, cond, List, ◌∷◌, subst, set, sym, refl, ap, ◌∙◌, arith}
 use Rattle.policy.specs.Members.{has}
 use Rattle.policy.specs.Sets.{left_of}
-use Rattle.policy.proofs.Beginning.{EachTo, each_start, each_more}
+use Rattle.policy.proofs.Each.{EachTo, each_start, each_more}
 use Rattle.policy.proofs.Rising.{first, Along, Turn, along_from, turn, next_past}
 use Rattle.trial.specs.Slots.{worked}
 use Rattle.trial.proofs.Giving.{Given, given_more, given_on}

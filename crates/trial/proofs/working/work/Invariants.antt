@@ -1,5 +1,5 @@
 use Rattle.std.proofs.Common.{◌≡◌, ◌<◌, false}
-use Rattle.policy.proofs.Beginning.{EachTo}
+use Rattle.policy.proofs.Each.{EachTo}
 use Rattle.policy.proofs.Rising.{first, Along}
 use Rattle.trial.specs.Slots.{worked}
 use Rattle.trial.proofs.Giving.{Given}

@@ -1,6 +1,6 @@
--- The set and the count so far are those of the jobs up to the next, and the marks are right.
-use Rattle.policy.specs.Slots.{AreTold}
-use Rattle.policy.proofs.Contest.{SoFar}
+-- The jobs up to the next are admitted.
+use Rattle.policy.specs.Slots.{RunSoFar}
+use Rattle.policy.proofs.Rising.{first, Along}
 use Rattle.policy.proofs.slot.Slot.contest.Given as goal
 
 abbrev pub invariant-loop-i : goal.invariant-loop-i
@@ -8,5 +8,5 @@ invariant-loop-i g l =
     let p = g.P.Policy in
     (goal.iterator-loop-i g).can_next l.i-iterator
     × (goal.iterator-loop-i g).is_finite l.i-iterator
-    × SoFar p.keyed p.precedes l.self l.set l.found l.i-iterator
-    × AreTold p.keyed p.precedes l.self l.marks
+    × Along l.self.jobs l.i-iterator
+    × RunSoFar p.keyed p.precedes l.self (first l.i-iterator) l.contest

@@ -7,4 +7,4 @@ invariant-loop-j g l =
     let p = g.P.Policy in
     (goal.iterator-loop-j g).can_next l.j-iterator
     × (goal.iterator-loop-j g).is_finite l.j-iterator
-    × Counted p.keyed (p.precedes l.self.policy.now) l.self l.job l.ahead l.j-iterator
+    × Counted p.keyed (p.precedes l.self.policy.now) l.self l.last l.ahead l.j-iterator

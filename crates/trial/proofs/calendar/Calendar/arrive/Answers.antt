@@ -1,17 +1,16 @@
-use Rattle.std.proofs.Common.{◌<◌, false, subst, refl, arith}
+use Rattle.std.proofs.Common.{◌<◌, subst, refl, arith}
 use Rattle.task.specs.Tables.{entry_at}
-use Rattle.policy.specs.Sets.{left_of}
 use Rattle.policy.proofs.Words.{none_has, word_is}
 use Rattle.trial.specs.Calendars.{Arrived}
-use Rattle.trial.specs.Places.{misses}
+use Rattle.trial.specs.Places.{is_due}
 use Rattle.trial.specs.declared.calendar.Calendar.{Calendar}
-use Rattle.trial.proofs.Grouping.{none_changed, none_swept, group_awaits, group_missed, group_left, group_passed_by, one_swept}
+use Rattle.trial.proofs.Grouping.{none_changed, none_swept, group_awaits, group_due, group_missed, group_left, group_passed_by, one_swept}
 use Rattle.trial.proofs.calendar.Calendar.arrive.Goals as goal
 use Rattle.trial.proofs.calendar.Calendar.arrive.Goals.{then-self-g, else-self-g}
 
--- the calendar at the beginning, where no job has missed
+-- the calendar at the beginning, where no job is due and none has missed
 abbrev cleared : Calendar → Calendar
-cleared c = record { released = c.released; events = c.events; soonest = c.soonest; active = c.active; missed = 0; fresh = false }
+cleared c = record { released = c.released; events = c.events; soonest = c.soonest; active = c.active; due = 0; missed = 0 }
 
 pub loop-g-init : goal.loop-g-init
 loop-g-init c = none_swept (entry_at c.args.tasks.now) c.args.t (cleared c.args.self.now) c.args.left.now c.requires.soonest
@@ -28,6 +27,12 @@ arrive_group-requires-clause-none_missed c =
     let a = c.args in
     let l = c.loop-g in
     group_missed (entry_at a.tasks.now) a.t (cleared a.self.now) a.left.now l.self l.left l.g (omega arith) l.invariant none_has
+
+pub arrive_group-requires-clause-none_due : goal.arrive_group-requires-clause-none_due
+arrive_group-requires-clause-none_due c =
+    let a = c.args in
+    let l = c.loop-g in
+    group_due (entry_at a.tasks.now) a.t (cleared a.self.now) a.left.now l.self l.left l.g (omega arith) l.invariant none_has
 
 pub loop-g-preserved : goal.loop-g-preserved
 loop-g-preserved c =
@@ -47,7 +52,7 @@ loop-g-preserved c =
           (one_swept at a.t (cleared a.self.now) a.left.now l.self l.left l.g low l.invariant l.self l.left
           (group_passed_by at a.t (cleared a.self.now) a.left.now l.self l.left l.g low l.invariant c.requires.later
           (λ i h. let w = c.requires.awaits i h in record { latest = w.latest; calm = w.calm; active_is = w.active_is })
-          none_has (omega (arith, x.if-self-g.false)))
+          none_has none_has (omega (arith, x.if-self-g.false)))
           (λ i h out. none_changed l.self l.left i) (l.invariant.soon l.g low) (omega (arith, x.if-self-g.false)) (λ h m ne. refl))
     ]
 
@@ -60,7 +65,7 @@ returns-clause-soonest c = c.loop-g.invariant.soon
 pub returns-clause-later : goal.returns-clause-later
 returns-clause-later c g h = c.loop-g.invariant.later g (omega arith)
 
-pub returns-clause-missed : goal.returns-clause-missed
-returns-clause-missed c =
+pub returns-clause-due : goal.returns-clause-due
+returns-clause-due c =
     let a = c.args in
-    word_is (λ i. misses (entry_at a.tasks.now i) a.t (left_of a.left.now i)) c.loop-g.self.missed (omega arith) (λ i h. (c.loop-g.invariant.arrived i (omega arith)).missed_is)
+    word_is (λ i. is_due (entry_at a.tasks.now i) a.t) c.loop-g.self.due (omega arith) (λ i h. (c.loop-g.invariant.arrived i (omega arith)).due_is)

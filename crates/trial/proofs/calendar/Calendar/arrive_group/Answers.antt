@@ -31,7 +31,7 @@ loop-i-preserved c =
       | else-self-i x ↦
           rw (c.min-soonest.ensures, x.self-is, x.left-is)
           (one_gone at c.args.t c.args.g c.args.self.now c.args.left.now l.self l.left l.soonest i here low l.invariant l.self l.left
-          (quiet_here at c.args.t c.args.g c.args.self.now c.args.left.now l.self l.left l.soonest i here low l.invariant c.requires.later (c.requires.awaits i here) (c.requires.none_missed i here) (omega (arith, x.if-self-i.false)))
+          (quiet_here at c.args.t c.args.g c.args.self.now c.args.left.now l.self l.left l.soonest i here low l.invariant c.requires.later (c.requires.awaits i here) (c.requires.none_due i here) (c.requires.none_missed i here) (omega (arith, x.if-self-i.false)))
           (λ k h ne. none_changed l.self l.left k) refl)
     ]
 

@@ -1,7 +1,8 @@
-use Rattle.std.proofs.Common.{◌≡◌}
+use Rattle.std.proofs.Common.{◌≡◌, false}
 use Rattle.task.specs.Tables.{entry_at}
-use Rattle.policy.specs.Members.{NextIn}
+use Rattle.policy.specs.Members.{has}
 use Rattle.policy.specs.Plans.{plan_of}
+use Rattle.policy.proofs.Each.{EachTo}
 use Rattle.policy.proofs.Rising.{first, Along}
 use Rattle.trial.specs.declared.trial.Outcome.TheVariants.{Ran}
 use Rattle.trial.specs.Slots.{Watched}
@@ -13,13 +14,13 @@ invariant-slots g l =
     let p = g.P.Policy in
     let plan = plan_of (p.keyed l.policy) (p.precedes l.policy) (entry_at l.tasks) in
     Undecided plan l.initial.self l.counter l.self
-    × Watched plan l.tasks l.self l.watch
+    × Watched l.tasks l.self l.watch
     × (l.outcome ≡ Ran)
 
 abbrev pub invariant-loop-i : goal.invariant-loop-i
 invariant-loop-i g l =
     (goal.iterator-loop-i g).can_next l.i-iterator
     × (goal.iterator-loop-i g).is_finite l.i-iterator
-    × Along l.missed l.i-iterator
-    × NextIn l.missed 0 (first l.i-iterator)
+    × Along l.due l.i-iterator
+    × EachTo l.due (λ k. has l.watch.calendar.missed k ≡ false) (first l.i-iterator)
     × (l.outcome ≡ Ran)

@@ -2,8 +2,8 @@ use Rattle.std.proofs.Common.{arith, ◌-◌}
 use Rattle.trial.proofs.Watching.{latest_before}
 use Rattle.trial.proofs.watch.Watch.arrive.Goals as goal
 
-pub arrive-missed-requires-clause-awaits : goal.arrive-missed-requires-clause-awaits
-arrive-missed-requires-clause-awaits c i h =
+pub arrive-due-requires-clause-awaits : goal.arrive-due-requires-clause-awaits
+arrive-due-requires-clause-awaits c i h =
     let w = c.args.self.now in
     record {
       latest = latest_before w i (w.calm - 1) h (omega (arith, w.onward)) (omega (arith, w.onward));

@@ -1,6 +1,0 @@
--- By the rules alone: a wrong body is refused at once.
-use Rattle.std.proofs.Common.{rules}
-use Rattle.policy.proofs.dispatch.stands_before.Goals as goal
-
-pub returns-else-a-b : goal.returns-else-a-b
-returns-else-a-b g c = search rules

@@ -1,6 +1,0 @@
--- By the rules alone: a wrong body is refused at once.
-use Rattle.std.proofs.Common.{rules}
-use Rattle.policy.proofs.layer.HeavyFirstPolicy.is_steady.Goals as goal
-
-pub returns : goal.returns
-returns g c = search rules
