@@ -35,12 +35,14 @@ impl<P: Policy> Bench<P> {
         ensures { Starts (view self.old) cpus result (view self.new) }
     {
         let outcome = self.begin(cpus);
-        // stays: a listed form (docs/DECISIONS.md, Language forms), a match on what came of it and on the mode.
+        // stays: a match on both, so that what came of it and the mode that it moves stand in one arm.
         match (outcome, &mut self.mode) {
-            (Ok(trial), mode) => {
+            (Ok(trial), mode @ Mode::Open) => {
                 *mode = Mode::Running(trial);
                 Ok(())
             }
+            // never comes: a trial begins only where the bench is open
+            (Ok(_), _) => Err(Refusal::AlreadyStarted),
             (Err(refusal), _) => Err(refusal),
         }
     }
@@ -51,7 +53,7 @@ impl<P: Policy> Bench<P> {
         ensures table { self.new.table ≡ self.old.table }
         ensures mode { self.new.mode ≡ decided outcome self.old.mode }
     {
-        // stays: the same listed form.
+        // stays: a match on both, since only a trial that goes on can end, and it ends in the mode that holds it.
         match (outcome, &mut self.mode) {
             (Outcome::Missed(task), Mode::Running(trial)) => {
                 let ended = *trial;
@@ -91,7 +93,7 @@ impl<P: Policy> Bench<P> {
     pub fn halt(&mut self) -> Result<(), Refusal>
         ensures { Step P.Policy.keyed P.Policy.precedes (view self.old) halting result (view self.new) }
     {
-        // stays: a listed form (docs/DECISIONS.md, Language forms), a match on the mode that is changed.
+        // stays: a match on the mode that is changed, and not a question before it.
         match &mut self.mode {
             Mode::Open => Err(Refusal::NotStarted),
             mode => {
@@ -122,7 +124,7 @@ impl<P: Policy> Bench<P> {
         ensures { Step P.Policy.keyed P.Policy.precedes (view self.now) asking_set result (view self.now) }
     {
         let set = self.mode.set().ok_or(Refusal::NotStarted)?;
-        // stays: a listed form (docs/DECISIONS.md, Language forms), a pair of the word and its count.
+        // stays: a tuple, since the caller takes the word and its count apart at once.
         Ok((set, set.count_ones()))
     }
 

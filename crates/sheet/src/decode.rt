@@ -41,7 +41,7 @@ fn read_entry(body: &[u8]) -> Option<(Entry, &[u8])>
 fn opening(bytes: &[u8]) -> Result<(u8, &[u8]), LoadFault>
     ensures { elim result [ Ok q ↦ (bytes.now ≡ cp q.0 ++ q.1.now) × (cpus_refusal q.0 ≡ None) | Err f ↦ fault_at true no_tasks 0 bytes.now ≡ Some f ] }
 {
-    // stays: a listed form (docs/DECISIONS.md, Language forms), a match on the bytes of the mark and the rest.
+    // stays: a slice pattern takes the mark and the rest apart in one step, so that no place is indexed.
     let fault = match bytes {
         [b'C', b'P', cpus, rest @ ..] => {
             check_cpus(*cpus).map_err(|refusal| Placed { refusal, place: 0 })?;
@@ -60,7 +60,7 @@ fn next_task(bytes: &[u8], place: usize) -> Result<Option<(Entry, &[u8])>, Misre
     requires { place + length bytes.now < 2 ^ 64 }
     ensures { elim result [ Ok o ↦ Next place bytes.now o | Err m ↦ ((t : List (Option Raw)) → Misreads false t place bytes.now m) ] }
 {
-    // stays: the same listed form.
+    // stays: slice patterns, as in `opening`.
     let fault = match bytes {
         [b'T', b'K', body @ ..] => match read_entry(body) {
             Some((entry, rest)) => return Ok(Some((entry, rest))),

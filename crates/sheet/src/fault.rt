@@ -82,7 +82,7 @@ pub struct Misread {
 }
 
 /// A refusal, and the place of the record that is refused.
-// stays: a listed form (docs/DECISIONS.md, Language forms), and From takes one value only.
+// stays: a struct of both, since From takes one value only.
 #[derive(Clone, Copy, PartialEq, Eq, Debug)]
 pub struct Placed {
     /// The refusal.
