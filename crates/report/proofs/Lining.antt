@@ -8,9 +8,9 @@ use Rattle.task.specs.declared.entry.Entry.{Entry}
 use Rattle.task.specs.declared.refusal.Refusal.TheVariants.{BufferTooShort}
 use Rattle.sheet.specs.Buffers.{Written, BeginsWith}
 use Rattle.bench.specs.Lines.{verdict_line, fault_line}
-use Rattle.report.specs.declared.unjudged.Unjudged.{Unjudged}
-use Rattle.report.specs.declared.unjudged.Unjudged.TheVariants.{Denied, Refused}
-use Rattle.report.specs.Prints.{Prints, PrintsAt}
+use Rattle.report.specs.declared.line.Line.TheVariants.{OfVerdict, OfFault}
+use Rattle.report.specs.Prints.{Prints}
+use Rattle.report.specs.Writes.{WritesLine}
 
 module _ (a n : ℕ) (xs ys text : List ℕ) (fits : a ≤ length xs) (size : length ys ≡ length xs - a) (is : BeginsWith text (take (length xs - a) (drop a xs)) ys n) (room : n ≤ length xs - a) where
   abbrev after : List ℕ
@@ -48,9 +48,8 @@ module _ {K : Type 0} (keyed : Entry → ℕ → K) (le : K → K → Bool) (byt
   part : length ys ≡ length xs - a
   part = size ∙ length-take-le (length xs - a) (drop a xs) (let l : length (drop a xs) ≡ length xs - a = length-drop a xs in omega arith)
 
-  pub verdict_at : (n : ℕ) → Prints keyed le bytes (take (length xs - a) (drop a xs)) ys (Ok n) → PrintsAt keyed le bytes a xs (put_mid a (length xs - a) xs ys) (Ok (a + n))
+  pub verdict_at : (n : ℕ) → Prints keyed le bytes (take (length xs - a) (drop a xs)) ys (Ok (OfVerdict n)) → WritesLine keyed le bytes a xs (put_mid a (length xs - a) xs ys) (Ok (a + n))
   verdict_at n (r, (v, j, b, h)) = (v, j, line_at a n xs ys (verdict_line v) (omega arith) part b (omega arith), omega arith)
 
-  pub unjudged_at : (u : Unjudged) → Prints keyed le bytes (take (length xs - a) (drop a xs)) ys (Err u) → PrintsAt keyed le bytes a xs (put_mid a (length xs - a) xs ys) (Err u)
-  unjudged_at (Refused n) (r, (f, j, b, h)) = (f, j, line_at a n xs ys (fault_line f) (omega arith) part b (omega arith), h)
-  unjudged_at (Denied e) (r, same) = absurd (let z : Some e ≡ None = sym r ∙ has_room 48 (length (take (length xs - a) (drop a xs))) (omega (arith, size, part)) in cc)
+  pub fault_at : (n : ℕ) → Prints keyed le bytes (take (length xs - a) (drop a xs)) ys (Ok (OfFault n)) → WritesLine keyed le bytes a xs (put_mid a (length xs - a) xs ys) (Err (record { length = n }))
+  fault_at n (r, (f, j, b, h)) = (f, j, line_at a n xs ys (fault_line f) (omega arith) part b (omega arith), h)

@@ -1,18 +1,17 @@
 -- Four lines make a report, or the first alone.
-use Rattle.std.proofs.Common.{◌≡◌, ℕ, ◌+◌, zero-add, ◌≤◌, Bool, leb, List, ◌++◌, length, Ok, Err, Result, subst}
+use Rattle.std.proofs.Common.{◌≡◌, ℕ, ◌+◌, zero-add, Bool, leb, List, ◌++◌, Ok, Err, Result, subst}
 use Rattle.task.specs.declared.entry.Entry.{Entry}
 use Rattle.bench.specs.declared.verdict.Verdict.{Verdict}
 use Rattle.bench.specs.Lines.{verdict_line, fault_line}
 use Rattle.sheet.specs.Buffers.{Written, BeginsWith}
 use Rattle.sheet.proofs.Writing.{text_more, from_start}
 use Rattle.policy.specs.Keys.{rank_of, time_to_deadline, heavy_key, heavy_first}
-use Rattle.report.specs.declared.unjudged.Unjudged.{Unjudged}
-use Rattle.report.specs.declared.unjudged.Unjudged.TheVariants.{Denied, Refused}
-use Rattle.report.specs.Reports.{Report, Reports, VerdictsOfSheet, verdicts, fault, report_answer}
+use Rattle.report.specs.declared.report.Faulted.{Faulted}
+use Rattle.report.specs.Reports.{Report, VerdictsOfSheet, verdicts, fault}
 use lib.Signed.{le_z}
-use Rattle.report.proofs.Lining.{has_room}
 use Rattle.report.proofs.Single.{never_faulty}
-use Rattle.report.specs.Prints.{VerdictOfSheet, PrintsAt}
+use Rattle.report.specs.Prints.{VerdictOfSheet}
+use Rattle.report.specs.Writes.{WritesLine, WritesReport}
 
 -- the text of four verdicts, a line after another
 module _ (bytes : List ℕ) (d r hd hr : Verdict) (js : VerdictsOfSheet bytes d r hd hr) (before a b c after : List ℕ) (n₁ n₂ n₃ n₄ : ℕ)
@@ -25,24 +24,22 @@ module _ (bytes : List ℕ) (d r hd hr : Verdict) (js : VerdictsOfSheet bytes d 
 
 -- a sheet that is judged under one policy is judged under every other
 pub judged_again : {A K L : Type 0} (keyed : Entry → ℕ → K) (le : K → K → Bool) (bytes : List ℕ) (v : Verdict) → VerdictOfSheet keyed le bytes v
-    → (keyed' : Entry → ℕ → L) (le' : L → L → Bool) (at : ℕ) (before after : List ℕ) (u : Unjudged) → PrintsAt keyed' le' bytes at before after (Err u) → A
-judged_again keyed le bytes v j keyed' le' at before after (Refused n) (f, x, w, h) = never_faulty keyed le bytes v f j x
-judged_again keyed le bytes v j keyed' le' at before after (Denied e) p = absurd p
+    → (keyed' : Entry → ℕ → L) (le' : L → L → Bool) (at : ℕ) (before after : List ℕ) (f : Faulted) → WritesLine keyed' le' bytes at before after (Err f) → A
+judged_again keyed le bytes v j keyed' le' at before after f (d, x, w, h) = never_faulty keyed le bytes v d j x
 
 -- the first line alone
-pub fault_alone : {K : Type 0} (keyed : Entry → ℕ → K) (le : K → K → Bool) (bytes before after : List ℕ) (u : Unjudged) → 192 ≤ length before
-    → PrintsAt keyed le bytes 0 before after (Err u) → Reports bytes before after (report_answer (Err u))
-fault_alone keyed le bytes before after (Refused n) h (f, x, w, short) = (has_room 192 (length before) h, (fault_line f, fault x, subst (BeginsWith (fault_line f) before after) (zero-add n) (from_start (0 + n) (fault_line f) before after w)))
-fault_alone keyed le bytes before after (Denied e) h p = absurd p
+pub fault_alone : {K : Type 0} (keyed : Entry → ℕ → K) (le : K → K → Bool) (bytes before after : List ℕ) (f : Faulted)
+    → WritesLine keyed le bytes 0 before after (Err f) → WritesReport bytes before after (Err f)
+fault_alone keyed le bytes before after f (d, x, w, short) = (fault_line d, fault x, subst (BeginsWith (fault_line d) before after) (zero-add f.length) (from_start (0 + f.length) (fault_line d) before after w))
 
 -- three verdicts, and what is written after them
-pub last_line : (bytes : List ℕ) (x y : ℕ) → x ≡ 1 → y ≡ 2 → (before a b c after : List ℕ) (n₁ n₂ n₃ : ℕ) → 192 ≤ length before
-    → PrintsAt time_to_deadline le_z bytes 0 before a (Ok n₁) → PrintsAt rank_of leb bytes n₁ a b (Ok n₂)
-    → PrintsAt (heavy_key x y time_to_deadline) (heavy_first le_z) bytes n₂ b c (Ok n₃)
-    → (r : Result ℕ Unjudged) → PrintsAt (heavy_key x y rank_of) (heavy_first leb) bytes n₃ c after r
-    → Reports bytes before after (report_answer r)
-last_line bytes x y ex ey before a b c after n₁ n₂ n₃ h (d, i, w, s) p q (Err u) r = judged_again time_to_deadline le_z bytes d i (heavy_key x y rank_of) (heavy_first leb) n₃ c after u r
-last_line bytes x y ex ey before a b c after n₁ n₂ n₃ h p q r (Ok n₄) s =
+pub last_line : (bytes : List ℕ) (x y : ℕ) → x ≡ 1 → y ≡ 2 → (before a b c after : List ℕ) (n₁ n₂ n₃ : ℕ)
+    → WritesLine time_to_deadline le_z bytes 0 before a (Ok n₁) → WritesLine rank_of leb bytes n₁ a b (Ok n₂)
+    → WritesLine (heavy_key x y time_to_deadline) (heavy_first le_z) bytes n₂ b c (Ok n₃)
+    → (r : Result ℕ Faulted) → WritesLine (heavy_key x y rank_of) (heavy_first leb) bytes n₃ c after r
+    → WritesReport bytes before after r
+last_line bytes x y ex ey before a b c after n₁ n₂ n₃ (d, i, w, s) p q (Err u) r = judged_again time_to_deadline le_z bytes d i (heavy_key x y rank_of) (heavy_first leb) n₃ c after u r
+last_line bytes x y ex ey before a b c after n₁ n₂ n₃ p q r (Ok n₄) s =
     let H : ℕ → ℕ → Type 0 = λ x y. VerdictOfSheet (heavy_key x y time_to_deadline) (heavy_first le_z) bytes r.0 in
     let L : ℕ → ℕ → Type 0 = λ x y. VerdictOfSheet (heavy_key x y rank_of) (heavy_first leb) bytes s.0 in
     let js : VerdictsOfSheet bytes p.0 q.0 r.0 s.0 = record {
@@ -51,4 +48,4 @@ last_line bytes x y ex ey before a b c after n₁ n₂ n₃ h p q r (Ok n₄) s 
       heavy_deadline = subst (λ k. H 1 k) ey (subst (λ k. H k y) ex r.1);
       heavy_rank = subst (λ k. L 1 k) ey (subst (λ k. L k y) ex s.1);
     } in
-    (has_room 192 (length before) h, four_lines bytes p.0 q.0 r.0 s.0 js before a b c after n₁ n₂ n₃ n₄ p.2 q.2 r.2 s.2)
+    four_lines bytes p.0 q.0 r.0 s.0 js before a b c after n₁ n₂ n₃ n₄ p.2 q.2 r.2 s.2

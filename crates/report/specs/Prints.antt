@@ -1,5 +1,5 @@
 -- What is printed for the bytes of a sheet under one policy.
-use Rattle.std.specs.Prelude.{◌≡◌, ℕ, ◌+◌, ◌≤◌, Bool, false, List, length, Some, None, Ok, Err, Option, Result}
+use Rattle.std.specs.Prelude.{◌≡◌, ℕ, ◌≤◌, Bool, false, List, length, Some, None, Ok, Err, Option, Result}
 use Rattle.task.specs.declared.entry.Entry.{Entry}
 use Rattle.task.specs.declared.refusal.Refusal.{Refusal}
 use Rattle.sheet.specs.declared.fault.LoadFault.{LoadFault}
@@ -12,9 +12,9 @@ use Rattle.bench.specs.Judged.{OnlyVerdict}
 use Rattle.bench.specs.Lines.{verdict_line, fault_line, room_refusal}
 use Rattle.bench.specs.Refusing.{placed}
 use Rattle.bench.specs.Steps.{start_refusal}
-use Rattle.sheet.specs.Buffers.{Written, BeginsWith}
-use Rattle.report.specs.declared.unjudged.Unjudged.{Unjudged}
-use Rattle.report.specs.declared.unjudged.Unjudged.TheVariants.{Denied, Refused}
+use Rattle.sheet.specs.Buffers.{BeginsWith}
+use Rattle.report.specs.declared.line.Line.{Line}
+use Rattle.report.specs.declared.line.Line.TheVariants.{OfVerdict, OfFault}
 
 -- the bytes are no sheet, or a bench with the sheet's table does not start on the sheet's CPUs
 pub data Faulty (bytes : List ℕ) : Fault → Type 0 where
@@ -32,19 +32,13 @@ module _ {K : Type 0} (keyed : Entry → ℕ → K) (le : K → K → Bool) (byt
     pub starts : start_refusal false (placed places) cpus ≡ None
     pub judged : OnlyVerdict (plan_of keyed le (placed places)) cpus 1000000000 v
 
-  -- what judging does to a buffer, by its answer: the line from the beginning and nothing else, or nothing
-  abbrev pub Prints : (before after : List ℕ) → Result ℕ Unjudged → Type 0
-  Prints before after (Ok n) =
+  -- What judging does to a buffer, by its answer: the verdict's line or the fault's, from the beginning and nothing else; or
+  -- nothing at all, where the buffer is too short.
+  abbrev pub Prints : (before after : List ℕ) → Result Line Refusal → Type 0
+  Prints before after (Ok (OfVerdict n)) =
       (room_refusal (length before) ≡ None)
       × ((v : Verdict) × VerdictOfSheet v × BeginsWith (verdict_line v) before after n × (n ≤ 48))
-  Prints before after (Err (Refused n)) =
+  Prints before after (Ok (OfFault n)) =
       (room_refusal (length before) ≡ None)
       × ((f : Fault) × Faulty bytes f × BeginsWith (fault_line f) before after n × (n ≤ 48))
-  Prints before after (Err (Denied e)) = (room_refusal (length before) ≡ Some e) × (after ≡ before)
-
-  -- A line was written at `at`, and the bytes before and after it are as they were: a verdict's line, with where it ends, or
-  -- a fault's, with its length.
-  abbrev pub PrintsAt : (at : ℕ) (before after : List ℕ) → Result ℕ Unjudged → Type 0
-  PrintsAt at before after (Ok end) = (v : Verdict) × VerdictOfSheet v × Written at (verdict_line v) before after end × (end ≤ at + 48)
-  PrintsAt at before after (Err (Refused n)) = (f : Fault) × Faulty bytes f × Written at (fault_line f) before after (at + n) × (n ≤ 48)
-  PrintsAt at before after (Err (Denied e)) = ⊥
+  Prints before after (Err e) = (room_refusal (length before) ≡ Some e) × (after ≡ before)

@@ -6,7 +6,7 @@ ghost use Rattle.bench.specs.Steps.{view, plan_for, with_mode, GoesOn};
 ghost use Rattle.report.specs.Prints.{Prints};
 ghost use Rattle.report.specs.Prepares.{Prepares};
 
-use crate::unjudged::Unjudged;
+use crate::line::Line;
 use bench::bench::Bench;
 use bench::fault::Fault;
 use bench::lines::{LINE_LENGTH, fault_line};
@@ -52,20 +52,20 @@ fn give_runs<P: Policy>(bench: &mut Bench<P>)
     }
 }
 
-/// Judges a sheet under a policy: writes the line to be printed from the buffer's beginning, and answers the length of a
-/// verdict's line.
-pub fn judge<P: Policy + Drop>(policy: P, sheet: &[u8], line: &mut [u8]) -> Result<usize, Unjudged>
+/// Judges a sheet under a policy: writes the line to be printed from the buffer's beginning, and answers which it is, with
+/// its length. Only a buffer that is too short is refused, and nothing is written then.
+pub fn judge<P: Policy + Drop>(policy: P, sheet: &[u8], line: &mut [u8]) -> Result<Line, Refusal>
     ensures { Prints (P.Policy.keyed policy) (P.Policy.precedes policy) sheet.now line.old line.new result }
 {
     if line.len() < LINE_LENGTH {
-        return Err(Unjudged::Denied(Refusal::BufferTooShort));
+        return Err(Refusal::BufferTooShort);
     }
     let mut bench = Bench::new(policy);
     if let Err(fault) = prepare(&mut bench, sheet) {
         let length = fault_line(&fault, line)?;
-        return Err(Unjudged::Refused { length });
+        return Ok(Line::OfFault { length });
     }
     give_runs(&mut bench);
     let length = bench.line(line)?;
-    Ok(length)
+    Ok(Line::OfVerdict { length })
 }

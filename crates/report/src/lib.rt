@@ -4,7 +4,9 @@
 
 /// A sheet under one policy.
 pub mod judge;
+/// Which line is written.
+pub mod line;
+/// From an input to an output.
+pub mod print;
 /// A sheet under four policies.
 pub mod report;
-/// Why there is no verdict.
-pub mod unjudged;

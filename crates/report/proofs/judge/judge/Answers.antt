@@ -1,4 +1,4 @@
-use Rattle.std.proofs.Common.{length, arith}
+use Rattle.std.proofs.Common.{length, arith, rules}
 use Rattle.bench.specs.Modes.{verdict_of}
 use Rattle.bench.specs.Steps.{view}
 use Rattle.report.proofs.Lining.{has_room}
@@ -21,3 +21,10 @@ returns g c =
         q.2,
       ),
     )
+
+-- By the rules alone, as the next: a wrong answer is refused at once.
+pub returns-then-line-lt-LINE_LENGTH : goal.returns-then-line-lt-LINE_LENGTH
+returns-then-line-lt-LINE_LENGTH g c = search rules
+
+pub returns-in-Err : goal.returns-in-Err
+returns-in-Err g c = search rules

@@ -1,11 +1,26 @@
-use Rattle.std.proofs.lemmas.Result.{err_from_is_err_and}
-use Rattle.report.proofs.Lining.{verdict_at, unjudged_at}
+use Rattle.std.proofs.Common.{◌-◌, length, drop, take, Result, subst}
+use Rattle.task.specs.declared.refusal.Refusal.{Refusal}
+use Rattle.report.specs.declared.line.Line.{Line}
+use Rattle.report.specs.Prints.{Prints}
+use Rattle.report.proofs.Lining.{verdict_at, fault_at}
 use Rattle.report.proofs.report.judge_at.Goals as goal
 
-pub returns-in_err-length : goal.returns-in_err-length
-returns-in_err-length g c =
-    let p = err_from_is_err_and c.from_residual.result c.from_residual.ensures.1 in
-    rw (p.1, p.2) (unjudged_at (g.P.Policy.keyed c.args.policy) (g.P.Policy.precedes c.args.policy) c.args.sheet.now c.args.at c.args.text.now c.judge.new.line c.requires c.judge.auto.line c.in_err-length.field-0.0 c.in_err-length.ensures)
+pub returns-in-OfVerdict : goal.returns-in-OfVerdict
+returns-in-OfVerdict g c =
+    let key = g.P.Policy.keyed c.args.policy in
+    let le = g.P.Policy.precedes c.args.policy in
+    let a = c.args.at in
+    let xs = c.args.text.now in
+    let ys = c.judge.new.line in
+    let P : Result Line Refusal → Type 0 = λ r. Prints key le c.args.sheet.now (take (length xs - a) (drop a xs)) ys r in
+    verdict_at key le c.args.sheet.now a xs ys c.requires c.judge.auto.line c.in-OfVerdict.length (subst P c.in-OfVerdict.ensures c.judge.ensures)
 
-pub returns : goal.returns
-returns g c = verdict_at (g.P.Policy.keyed c.args.policy) (g.P.Policy.precedes c.args.policy) c.args.sheet.now c.args.at c.args.text.now c.judge.new.line c.requires c.judge.auto.line c.in_ok-length.length c.in_ok-length.ensures
+pub returns-in-OfFault : goal.returns-in-OfFault
+returns-in-OfFault g c =
+    let key = g.P.Policy.keyed c.args.policy in
+    let le = g.P.Policy.precedes c.args.policy in
+    let a = c.args.at in
+    let xs = c.args.text.now in
+    let ys = c.judge.new.line in
+    let P : Result Line Refusal → Type 0 = λ r. Prints key le c.args.sheet.now (take (length xs - a) (drop a xs)) ys r in
+    fault_at key le c.args.sheet.now a xs ys c.requires c.judge.auto.line c.in-OfFault.length (subst P c.in-OfFault.ensures c.judge.ensures)

@@ -1,4 +1,7 @@
-use Rattle.std.proofs.Common.{leb, arith}
+use Rattle.std.proofs.Common.{◌≡◌, ◌≤◌, leb, MatchResult, subst}
+use Rattle.task.specs.declared.refusal.Refusal.{Refusal}
+use Rattle.task.specs.declared.refusal.Refusal.TheVariants.{BadThreshold}
+use Rattle.policy.specs.declared.heavy.Threshold.{Threshold}
 use Rattle.std.proofs.lemmas.Result.{err_from_is_err_and}
 use lib.Signed.{le_z}
 use Rattle.policy.specs.Keys.{time_to_deadline, heavy_key, heavy_first}
@@ -8,8 +11,8 @@ use Rattle.report.proofs.report.write_verdicts.Goals as goal
 
 pub returns-in_err-end : goal.returns-in_err-end
 returns-in_err-end c =
-    let p = err_from_is_err_and c.from_residual-in_err-end.result c.from_residual-in_err-end.ensures.1 in
-    rw (p.1, p.2) (fault_alone time_to_deadline le_z c.args.sheet.now c.args.text.now c.judge_at.new.text c.in_err-end.field-0.0 (omega arith) c.in_err-end.ensures)
+    let p = err_from_is_err_and c.from_residual.result c.from_residual.ensures.1 in
+    rw (p.1, p.2) (fault_alone time_to_deadline le_z c.args.sheet.now c.args.text.now c.judge_at.new.text c.in_err-end.field-0.0 c.in_err-end.ensures)
 
 pub returns-in_err-end-2 : goal.returns-in_err-end-2
 returns-in_err-end-2 c =
@@ -19,13 +22,13 @@ returns-in_err-end-2 c =
 pub returns-in_err-end-3 : goal.returns-in_err-end-3
 returns-in_err-end-3 c =
     let d = c.in_ok-end.ensures in
-    let t = c.in_ok-threshold.threshold in
+    let t = c.unwrap-threshold.result in
     judged_again time_to_deadline le_z c.args.sheet.now d.0 d.1 (heavy_key t.a t.b time_to_deadline) (heavy_first le_z) _ _ _ c.in_err-end-3.field-0.0 c.in_err-end-3.ensures
 
 pub returns : goal.returns
 returns c =
     let d = c.in_ok-end.ensures in
     let r = c.in_ok-end-2.ensures in
-    let t = c.in_ok-threshold.threshold in
-    let is = c.in_ok-threshold.ensures in
-    last_line c.args.sheet.now t.a t.b is.0 is.1 c.args.text.now _ _ _ _ _ _ _ (omega arith) d r c.in_ok-end-3.ensures c.judge_at-4.result c.judge_at-4.ensures
+    let t = c.unwrap-threshold.result in
+    let is = subst (λ r. MatchResult r (λ (t : Threshold). (t.a ≡ 1) × (t.b ≡ 2)) (λ (e : Refusal). (e ≡ BadThreshold) × (((1 ≤ 2) × (2 ≤ 1000) × (1 ≤ 2)) → ⊥))) c.unwrap-threshold.ensures c.new.ensures in
+    last_line c.args.sheet.now t.a t.b is.0 is.1 c.args.text.now _ _ _ _ _ _ _ d r c.in_ok-end-3.ensures c.judge_at-4.result c.judge_at-4.ensures

@@ -1,0 +1,2 @@
+-- What the programs share at their edge.
+pub mod Failures
