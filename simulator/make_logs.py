@@ -386,6 +386,62 @@ def add_reading(script):
     script.calls(("verdict", "RUNNING 1"), ("set", "ok 00000002 1"))
 
 
+def add_odd_lines(script):
+    """Lines that are read or passed over by a hair. A byte that is no UTF-8 stands as a lone surrogate."""
+    script.log("lines that begin with # are remarks, whatever follows; others are not")
+    script.calls(("#", ""), ("##", ""), ("#x", ""), ("#verdict", ""), ("# verdict", ""), ("#\r", ""), ("#\r\r", ""),
+                 ("#é", ""), ("#\udcff", ""), ("# \udcff\udc80 start 1", ""))
+    script.calls((" #", "unreadable"), ("  #", "unreadable"), (" # a remark", "unreadable"), (" #x", "unreadable"),
+                 ("verdict #", "unreadable"), ("\t# a remark", "unreadable"), ("\r#", "unreadable"),
+                 ("// a remark", "unreadable"), ("; a remark", "unreadable"), ("\ufeff# a remark", "unreadable"))
+
+    script.log("blank lines, and spaces about words")
+    script.call(enter(1, "ONE", 0, 2, 4, 4), "ok")
+    script.calls(("", ""), (" ", ""), ("     ", ""), ("\r", ""), ("   \r", ""), ("start 1", "ok"), ("run 1", "RUNNING 1"),
+                 (" verdict", "RUNNING 1"), ("verdict ", "RUNNING 1"), ("   verdict   ", "RUNNING 1"),
+                 ("verdict \r", "RUNNING 1"), (" set  \r", "ok 00000002 1"), ("verdict" + " " * 9_000, "RUNNING 1"),
+                 (" " * 9_000 + "verdict", "RUNNING 1"), (" " * 9_000, ""), ("run " + "0" * 9_000, "RUNNING 1"))
+
+    script.log("a carriage return counts but for one at the end")
+    script.call(enter(1, "ONE", 0, 2, 4, 4), "ok")
+    script.calls(("\r\r", "unreadable"), ("\r\r\r", "unreadable"), (" \r\r", "unreadable"), ("\r ", "unreadable"),
+                 ("start 1\r\r", "unreadable"), ("start 1 \r\r", "unreadable"), ("start 1\r ", "unreadable"),
+                 ("start\r1", "unreadable"), ("start \r1", "unreadable"), ("\rstart 1", "unreadable"),
+                 ("start 1\r\r\r", "unreadable"), ("verdict", "refused 2"), ("start 1\r", "ok"))
+
+    script.log("only a space separates words")
+    script.call(enter(1, "ONE", 0, 2, 4, 4), "ok")
+    for other in "\t\v\f\0\x1f\x7f\x85\xa0\u2003\u2028\u3000":
+        script.calls((f"start{other}1", "unreadable"), (f"{other}start 1", "unreadable"), (f"start 1{other}", "unreadable"),
+                     (other, "unreadable"), (f" {other} ", "unreadable"))
+    script.call("start 1", "ok")
+
+    script.log("lines that are no UTF-8, and characters beyond ASCII")
+    script.call(enter(1, "ONE", 0, 2, 4, 4), "ok")
+    good = enter(2, "TWO", 0, 2, 4, 4)
+    for other in ("\udcff", "\udc80", "\udcc3", "\udcc3(", "\udced\udca0\udc80", "\udcf4\udc90\udc80\udc80", "é", "１",
+                  "\U0001f600"):
+        script.calls((other, "unreadable"), (f" {other}", "unreadable"), (f"{other}start 1", "unreadable"),
+                     (f"start 1{other}", "unreadable"), (f"start 1 {other}", "unreadable"), (f"start {other}", "unreadable"),
+                     (f"sta{other}rt 1", "unreadable"), (f"load {other}", "unreadable"), (f"load 4350{other}", "unreadable"),
+                     (f"{other} # a remark", "unreadable"), (good.replace("TWO", other), None),
+                     (good.replace(hexname("TWO"), other), "unreadable"), (f"bench {other}", "unreadable"),
+                     (f"bench deadline{other}", "unreadable"), (f"{other}\r", "unreadable"))
+    script.calls(("verdict", "refused 2"), ("start 1", "ok"), ("run 1", "RUNNING 1"))
+
+    script.log("long lines")
+    more = spell(SAMPLE + bytes(4_500))
+    script.calls((f"load {more}", "refused S 7 71"), (f"load {more}0", "unreadable"), (f"load {more[:-1]}", "unreadable"),
+                 (f"load {spell(SAMPLE)}", "ok 2"), ("x" * 9_000, "unreadable"), ("#" + "x" * 9_000, ""),
+                 ("start 2" + " " * 9_000 + "2", "unreadable"), ("start 2", "ok"), (f"run {FOR_EVER}", "MISSED 2 5"))
+
+
+def add_last(script):
+    """A last log, of which the last line has no end."""
+    script.log("the last line has no end")
+    script.calls((enter(1, "ONE", 0, 2, 4, 4), "ok"), ("start 1", "ok"), ("run 1", "RUNNING 1"), ("set", "ok 00000002 1"))
+
+
 # ---- every refusal
 
 def add_refusals(script):
@@ -864,7 +920,7 @@ def reached(pairs):
     """Counts, over pairs of a line and its answer: refusals by call, verdicts by call, other answers."""
     refusals, verdicts, others = Counter(), Counter(), Counter()
     for line, answer in pairs:
-        call, words = line.split()[0], answer.split()
+        call, words = (line.split() or [""])[0], answer.split()
         if words[0] == "refused":
             refusals[call, int(words[2] if call == "load" else words[1])] += 1
         elif words[0] in ("HOLDS", "MISSED", "RUNNING"):
@@ -900,6 +956,11 @@ def unfit(refusals, verdicts):
     return found
 
 
+def text_of(lines):
+    """The lines as bytes, the last without an end."""
+    return "\n".join(lines).encode(errors="surrogateescape")
+
+
 def main():
     parser = argparse.ArgumentParser(description=__doc__, formatter_class=argparse.RawDescriptionHelpFormatter)
     parser.add_argument("files", nargs="*", type=Path, metavar="FILE", help="the script and the answers to write")
@@ -916,8 +977,7 @@ def main():
                        check=True)
 
         def run(lines):
-            text = "".join(line + "\n" for line in lines).encode()
-            done = subprocess.run([program, "--script"], input=text, stdout=subprocess.PIPE, check=True)
+            done = subprocess.run([program, "--script"], input=text_of(lines), stdout=subprocess.PIPE, check=True)
             return done.stdout.decode().splitlines()
 
         script = Script()
@@ -932,6 +992,8 @@ def main():
             script.remark(f"random log {number}")
             for line in log.lines:
                 script.call(line)
+        add_odd_lines(script)
+        add_last(script)
 
         began = time.perf_counter()
         answers = run([line for line, _ in script.lines])
@@ -942,7 +1004,7 @@ def main():
             assert known is None or known == answer, f"{line}: {answer!r} is not {known!r}"
 
     refusals, verdicts, others = reached([(line, answer) for (line, _), answer in zip(asked, answers)])
-    texts = ["".join(line + "\n" for line in lines).encode() for lines in ([line for line, _ in script.lines], answers)]
+    texts = [text_of([line for line, _ in script.lines]), "".join(answer + "\n" for answer in answers).encode()]
     if words.check:
         report(refusals, verdicts, others)
     known = sum(known is not None for _, known in asked)

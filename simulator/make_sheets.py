@@ -2,12 +2,12 @@
 """Writes the sheets that the program `judge` is tested on, and what it must print for them.
 
     simulator/make_sheets.py            write the files
-    simulator/make_sheets.py --names    only print the line number and a name for each sheet
+    simulator/make_sheets.py --names    only print the line number and a name for each line
 
-Written are crates/judge/stdin (one sheet to a line, in hex digits, `-` for the empty sheet),
-crates/judge/stdout (what the simulator prints for them) and samples/strap.sheet (the sample sheet, as
-bytes). Everything is drawn from a fixed seed, so a second run writes the same files. The simulator is
-compiled for the purpose; g++ must be there.
+Written are crates/judge/stdin (one sheet to a line, in hex digits, `-` for the empty sheet; and after
+them lines that are spelled otherwise or spell no sheet), crates/judge/stdout (what the simulator prints
+for them) and samples/strap.sheet (the sample sheet, as bytes). Everything is drawn from a fixed seed,
+so a second run writes the same files. The simulator is compiled for the purpose; g++ must be there.
 """
 
 import math
@@ -416,6 +416,65 @@ def cheap(sheet):
     return not 20_000 < math.lcm(1, *periods) <= LONGEST_HYPERPERIOD
 
 
+# ---- lines that are spelled otherwise, or spell no sheet
+
+lines = []  # (name, the line as bytes, the sheet that it spells or None)
+
+
+def add_lines():
+    def line(name, text, sheet=None):
+        lines.append((name, text, sheet))
+
+    def unreadable(name, *texts):
+        for number, text in enumerate(texts, 1):
+            line(f"no sheet: {name}" + (f", {number}" if len(texts) > 1 else ""), text)
+
+    plain = CP(2) + TK(1, "JKLMNOJK", 0, 1, 4, 4, rank=0xAB) + TK(0x1F, "ZZ", 0xDE, 5, 5, 5, rank=0xCD) + EN
+    upper = plain.hex().upper().encode()
+    lower, half = upper.lower(), len(upper) // 2
+    long = (SAMPLE + bytes(range(256)) * 40).hex().upper().encode()  # 10,311 bytes
+
+    line("hex digits in lower case", lower, plain)
+    line("hex digits in both cases", upper[:half] + lower[half:], plain)
+    for name, one, other in (("upper before lower", upper, lower), ("lower before upper", lower, upper)):
+        line(f"a digit of each case, {name}", bytes(b for two in zip(one[::2], other[1::2]) for b in two), plain)
+    line("every digit", b"00112233445566778899AaBbCcDdEeFfaAbBcCdDeEfF",
+         bytes.fromhex("00112233445566778899AABBCCDDEEFFAABBCCDDEEFF"))
+    line("a blank line", b"", b"")
+    line("two blank lines", b"", b"")
+    line("a sheet after blank lines", upper, plain)
+    line("a hyphen", b"-", b"")
+    line("a carriage return alone", b"\r", b"")
+    line("a hyphen and a carriage return", b"-\r", b"")
+    line("a carriage return at the end", upper + b"\r", plain)
+    line("a carriage return after lower case", lower + b"\r", plain)
+    unreadable("two carriage returns", b"\r\r", b"-\r\r", upper + b"\r\r")
+    unreadable("a carriage return elsewhere", b"\r" + upper, upper[:half] + b"\r" + upper[half:], b"\r-")
+    unreadable("hyphens", b"--", b"---", b"-" + upper, upper + b"-", upper[:4] + b"-" + upper[4:], b"- -", b"-0", b"0-", b"-00")
+    unreadable("an odd number of digits", b"4", b"435", upper[:-1], upper + b"0", upper[1:], lower[:-1], upper[:-1] + b"\r")
+    unreadable("spaces", b" ", b"  ", b" " + upper, upper + b" ", b"  " + upper, upper + b"  ",
+               upper[:4] + b" " + upper[4:], upper[:3] + b" " + upper[4:], b" -", b"- ", upper + b" \r", b" \r")
+    unreadable("tabs", b"\t", upper + b"\t", b"\t" + upper, upper + b"\v", upper + b"\f")
+    unreadable("remarks", b"# " + upper, b"#", upper + b" # a remark")
+    unreadable("a sign before", b"0x" + upper, b"+" + upper, b"+4")
+    unreadable("a bad character first", *(bytes([bad]) + upper[1:] for bad in b"Gg/:@`xO\0"))
+    unreadable("a bad character second", *(upper[:1] + bytes([bad]) + upper[2:] for bad in b"Gg/:@`xO\0"))
+    unreadable("a bad character in the middle", *(upper[:half] + bytes([bad]) + upper[half + 1:] for bad in b"Gg/:@`xO\0"))
+    unreadable("a bad character last", *(upper[:-1] + bytes([bad]) for bad in b"Gg/:@`xO\0"))
+    unreadable("two bad characters", upper + b"zz", b"zz" + upper, b"zz", upper[:half] + b"zz" + upper[half:])
+    unreadable("no UTF-8", b"\xff", b"\xff" * 2, b"\xff" + upper, upper[:half] + b"\xff" + upper[half:], upper + b"\xff",
+               upper + b"\xff\xff", upper[:-1] + b"\xff", b"\x80" + upper[1:], upper + b"\xc3", b"\xc3-",
+               upper + b"\xb0\xb0")
+    unreadable("UTF-8 beyond ASCII", "é".encode(), "é".encode() + upper, upper + "é".encode(),
+               upper[:half] + "é".encode() + upper[half:], "\ufeff".encode() + upper, "４３５０".encode(), "–".encode())
+    unreadable("a sheet and more words", upper + b" " + upper, upper + b"," + upper, b'"' + upper + b'"')
+    line("a long line", long, SAMPLE + bytes(range(256)) * 40)
+    line("a long line in lower case", long.lower() + b"\r", SAMPLE + bytes(range(256)) * 40)
+    unreadable("a long line", long[:-1], long[:-1] + b"g", b"g" + long[1:], long[:9000] + b" " + long[9001:])
+    line("the sample sheet once more", spell(SAMPLE).encode(), SAMPLE)
+    line("the last line, without an end", upper, plain)
+
+
 # ---- running the simulator
 
 def spell(sheet):
@@ -427,28 +486,32 @@ def main():
         program = Path(room) / "simulator"
         subprocess.run(["g++", "-std=c++17", "-O3", "-Wall", "-Wextra", "-o", program, HERE / "simulator.cpp"], check=True)
 
-        def simulate(lines, *words):
-            text = "".join(line + "\n" for line in lines)
-            return subprocess.run([program, "--hex", *words], input=text, capture_output=True, text=True, check=True).stdout
+        def simulate(text, *words):
+            return subprocess.run([program, "--hex", *words], input=text, capture_output=True, check=True).stdout.decode()
 
         def run(some):
             """What the simulator prints for each sheet: a fault's line, or four lines."""
-            lines = iter(simulate(map(spell, some)).splitlines(keepends=True))
+            told = iter(simulate(text_of(some)).splitlines(keepends=True))
             outputs = []
-            for line in lines:
+            for line in told:
                 more = 0 if line.startswith("REFUSED") else 3
-                outputs.append(line + "".join(next(lines) for _ in range(more)))
+                outputs.append(line + "".join(next(told) for _ in range(more)))
             assert len(outputs) == len(some)
             return outputs
+
+        def text_of(some):
+            """The sheets, a line each."""
+            return "".join(spell(sheet) + "\n" for sheet in some).encode()
 
         add_examples()
         add_edges_of_the_rules()
         add_damaged()
         add_random_valid(run)
         add_random_damaged()
+        add_lines()
 
         if "--names" in sys.argv[1:]:
-            for number, (name, _, _) in enumerate(sheets, 1):
+            for number, name in enumerate([name for name, *_ in sheets + lines], 1):
                 print(number, name)
             return
 
@@ -458,21 +521,33 @@ def main():
         reached = {int(output.split()[2]) for output in outputs if output.startswith("REFUSED")}
         due = {3, 4, 5, 6, 7, 8, 9, 10, 12, 13, 14, 15, 16, 17, 18, 19}
         assert reached == due, f"refusals reached: {sorted(reached)}"
-        lines = "".join(outputs)
-        assert "RUNNING" not in lines, "a sheet is not decided"
-        slots = sum(map(int, simulate([spell(sheet) for _, sheet, _ in sheets], "--slots").split()))
+        told = "".join(outputs)
+        assert "RUNNING" not in told, "a sheet is not decided"
+
+        # A line that spells a sheet is told what the sheet is, however it is spelled, and the others are told that.
+        spelled = [sheet for *_, sheet in lines if sheet is not None]
+        judged = dict(zip(spelled, run(spelled)))
+        for name, line, sheet in lines:
+            expected = "unreadable\n" if sheet is None else judged[sheet]
+            output = simulate(line + b"\n")
+            assert output == expected, f"{name}: {output!r} is not {expected!r}"
+            told += expected
+
+        text = text_of([sheet for _, sheet, _ in sheets]) + b"\n".join(line for _, line, _ in lines)
+        assert simulate(text) == told
+        slots = sum(map(int, simulate(text, "--slots").split()))
         assert slots <= MOST_SLOTS_IN_ALL, f"{slots} slots in all"
 
         folder = ROOT / "crates" / "judge"
         folder.mkdir(parents=True, exist_ok=True)
-        (folder / "stdin").write_text("".join(spell(sheet) + "\n" for _, sheet, _ in sheets))
-        (folder / "stdout").write_text(lines)
+        (folder / "stdin").write_bytes(text)
+        (folder / "stdout").write_text(told)
         (ROOT / "samples").mkdir(exist_ok=True)
         (ROOT / "samples" / "strap.sheet").write_bytes(SAMPLE)
 
-        kinds = Counter(line.split()[0] for line in lines.splitlines())
+        kinds = Counter(line.split()[0] for line in told.splitlines())
         faults = Counter(int(output.split()[2]) for output in outputs if output.startswith("REFUSED"))
-        print(f"{len(sheets)} sheets; {slots} slots; lines: {dict(kinds)}")
+        print(f"{len(sheets)} sheets and {len(lines)} other lines; {slots} slots; lines: {dict(kinds)}")
         print("sheets with each refusal:", " ".join(f"{n}:{faults[n]}" for n in sorted(faults)))
 
 

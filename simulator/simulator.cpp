@@ -7,9 +7,13 @@
 // program, so that each can be held against the other.
 //
 //   simulator < sheet             judge one sheet, given as bytes
-//   simulator --hex < lines       judge many sheets, each a line of hex digits ("-" is the empty sheet)
+//   simulator --hex < lines       judge many sheets, a line each
 //   simulator --slots ...         print, in place of the lines, how many slots each policy took
 //   simulator --script < script   make the calls of a script
+//
+// A line of --hex spells a sheet: two hex digits of either case for each byte. The empty sheet is a line
+// of nothing or of "-" alone. A line that spells no sheet is answered with "unreadable". As in a script,
+// one carriage return at the end of a line does not count.
 //
 // A script has one call to a line; blank lines and lines that begin with # are passed over. Words stand
 // one or more spaces apart, and a carriage return at the end of a line does not count.
@@ -680,18 +684,14 @@ void followScript(std::istream& script) {
     }
 }
 
-// Judges the sheets that the lines spell, and tells whether each line does spell one.
-bool judgeLines(std::istream& lines, bool slots) {
-    std::string line;
-    for (unsigned number = 1; std::getline(lines, line); ++number) {
-        const std::optional<Bytes> bytes = spelled(line);
-        if (!bytes) {
-            std::cerr << "simulator: line " << number << " is not a sheet in hex digits\n";
-            return false;
-        }
-        judge(*bytes, slots);
+// Judges the sheets that the lines spell, and tells which lines spell none (nothing, if `slots`).
+void judgeLines(std::istream& lines, bool slots) {
+    for (std::string line; std::getline(lines, line);) {
+        if (!line.empty() && line.back() == '\r') line.pop_back();
+        const std::optional<Bytes> bytes = line.empty() ? Bytes{} : spelled(line);
+        if (bytes) judge(*bytes, slots);
+        else if (!slots) std::cout << "unreadable\n";
     }
-    return true;
 }
 
 }  // namespace
@@ -714,7 +714,7 @@ int main(int argc, char** argv) {
         followScript(std::cin);
         return 0;
     }
-    if (hex) return judgeLines(std::cin, slots) ? 0 : 2;
-    judge(readInput(), slots);
+    if (hex) judgeLines(std::cin, slots);
+    else judge(readInput(), slots);
     return 0;
 }

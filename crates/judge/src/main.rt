@@ -1,29 +1,26 @@
-//! Judges the timing sheets on standard input, each a line of hex digits, and prints for each what `strapverdict` prints.
+//! Judges the timing sheets on standard input, each a line of hex digits, and prints for each what `strapverdict` prints. A
+//! line that spells no sheet is answered with `unreadable`.
 
 #![tactic(auto)]
 
-use report::report::report_text;
-use std::alloc::Global;
-use std::io::{BufRead, BufReader, Write};
+/// What is printed for the lines of an input.
+mod lines;
+/// The sheet that a line spells.
+mod spelling;
 
-/// The bytes that a line spells, two digits to a byte, up to the first character that is none.
-fn spelled(line: &[u8], heap: Global) -> anyhow::Result<Vec<u8>> {
-    let digits = line.iter().take_while(|b| b.is_ascii_hexdigit()).count();
-    let (pairs, _) = line.split_at(digits - digits % 2);
-    Ok(hex::decode(heap, pairs)?)
+use lines::judge_lines;
+use std::io::{BufReader, BufWriter};
+use std::process::ExitCode;
+use streams::ending::end_program;
+use streams::failure::Failure;
+
+/// Judges the lines of standard input.
+fn judge(rt: &HostRuntime) -> Result<(), Failure> {
+    let input = BufReader::new(rt.alloc(), rt.stdin()).map_err(Failure::on_reading)?;
+    let mut output = BufWriter::new(rt.alloc(), rt.stdout()).map_err(|_| Failure::Memory)?;
+    judge_lines(input, &mut output, rt.alloc())
 }
 
-/// Judges each line.
-fn judge_lines(rt: &HostRuntime) -> anyhow::Result<()> {
-    let mut out = rt.stdout();
-    for line in BufReader::new(rt.alloc(), rt.stdin())?.lines(rt.alloc()) {
-        let line = line?;
-        let sheet = spelled(line.as_bytes(), rt.alloc())?;
-        out.write_all(report_text(sheet.as_slice()).as_slice())?;
-    }
-    Ok(())
-}
-
-fn main(rt: HostRuntime) -> anyhow::Result<()> {
-    judge_lines(&rt)
+fn main(rt: HostRuntime) -> ExitCode {
+    end_program(&rt, "judge", judge(&rt))
 }

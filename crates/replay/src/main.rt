@@ -28,23 +28,27 @@ mod words;
 use denied::apart;
 use session::Session;
 use std::io::{BufRead, BufReader, Write};
+use std::process::ExitCode;
+use streams::ending::end_program;
+use streams::failure::Failure;
 
 /// Does what a line asks for, and prints the answer, if there is one. Lack of memory ends the script.
-fn replay_line<W: Write>(line: &[u8], session: &mut Session, out: &mut W) -> anyhow::Result<()> {
-    match apart(session.answer(line))? {
-        Ok(None) => {}
-        Ok(Some(answer)) => writeln!(out, "{answer}")?,
-        Err(denied) => writeln!(out, "{denied}")?,
-    }
-    Ok(())
+fn replay_line<W: Write>(line: &[u8], session: &mut Session, out: &mut W) -> Result<(), Failure> {
+    let printed = match apart(session.answer(line))? {
+        Ok(None) => Ok(()),
+        Ok(Some(answer)) => writeln!(out, "{answer}"),
+        Err(denied) => writeln!(out, "{denied}"),
+    };
+    printed.map_err(Failure::Output)
 }
 
 /// Goes through the lines of a script. A carriage return at the end of a line does not count.
-fn replay(rt: &HostRuntime) -> anyhow::Result<()> {
+fn replay(rt: &HostRuntime) -> Result<(), Failure> {
     let mut out = rt.stdout();
     let mut session = Session::new(rt.alloc());
-    for line in BufReader::new(rt.alloc(), rt.stdin())?.split(rt.alloc(), b'\n') {
-        let line = line?;
+    let script = BufReader::new(rt.alloc(), rt.stdin()).map_err(Failure::on_reading)?;
+    for line in script.split(rt.alloc(), b'\n') {
+        let line = line.map_err(Failure::on_reading)?;
         let line = line.as_slice();
         let line = line.strip_suffix(b"\r").unwrap_or(line);
         replay_line(line, &mut session, &mut out)?;
@@ -52,6 +56,6 @@ fn replay(rt: &HostRuntime) -> anyhow::Result<()> {
     Ok(())
 }
 
-fn main(rt: HostRuntime) -> anyhow::Result<()> {
-    replay(&rt)
+fn main(rt: HostRuntime) -> ExitCode {
+    end_program(&rt, "replay", replay(&rt))
 }

@@ -1,0 +1,4 @@
+-- Lemmas of the proofs in this folder.
+pub mod Spelled
+pub mod Told
+pub mod Single
