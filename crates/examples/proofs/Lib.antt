@@ -3,3 +3,5 @@ pub mod Places
 pub mod Trace
 pub mod Verdicts
 pub mod Checks
+pub mod Computed
+pub mod Telling

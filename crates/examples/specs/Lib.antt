@@ -2,3 +2,4 @@
 pub mod Policies
 pub mod Kinds
 pub mod Rows
+pub mod Client
