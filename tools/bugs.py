@@ -5,9 +5,9 @@ comments, attributes and tests are not touched."""
 import collections
 import re
 
-# A bug: the function that it stands in, the first line that it changes (counted from 1), of which kind it is, and what
-# that line and those after it become.
-Bug = collections.namedtuple("Bug", "function line kind news")
+# A bug: the function that it stands in, that function's first and last line, the first line that the bug changes (all counted
+# from 1), of which kind it is, and what that line and those after it become.
+Bug = collections.namedtuple("Bug", "function first last line kind news")
 
 # Where code stands: the name of a function, and its header and its body, as places in the text.
 Span = collections.namedtuple("Span", "name header begin end")
@@ -28,9 +28,18 @@ def blanked(text, begin, end):
     return text[:begin] + re.sub(r"[^\n]", " ", text[begin:end]) + text[end:]
 
 
+def test_files(text):
+    """The names of the modules of a file that hold its tests and stand in files of their own."""
+    return re.findall(r"^#\[cfg\(test\)\]\n(?:pub )?mod (\w+);", text, re.M)
+
+
 def code_of(text):
-    """The text with spaces in place of comments, attributes, imports, ghost items and clauses."""
-    for pattern in (r"//[^\n]*", r"#!?\[[^\n]*\]$", r"^\s*(pub )?(ghost )?use [^;]*;", r"^\s*(pub )?mod \w+;"):
+    """The text with spaces in place of comments, tests, attributes, imports, ghost items and clauses."""
+    for found in list(re.finditer(r"//[^\n]*", text)):
+        text = blanked(text, *found.span())
+    while found := re.search(r"^#\[cfg\(test\)\]\n(pub )?mod \w+ \{", text, re.M):
+        text = blanked(text, found.start(), closing(bare(text), found.end() - 1))
+    for pattern in (r"#!?\[[^\n]*\]$", r"^\s*(pub )?(ghost )?use [^;]*;", r"^\s*(pub )?mod \w+;"):
         for found in list(re.finditer(pattern, text, re.M)):
             text = blanked(text, *found.span())
     while found := re.search(r"\bghost \w+( =|:) \{|\bby \{|\b(requires|ensures)( \w+)? \{", text):
@@ -116,70 +125,91 @@ COMPARED = {"<": ["<=", ">"], "<=": ["<", ">="], ">": [">=", "<"], ">=": [">", "
 COUNTED = {"+": ["-"], "-": ["+"], "*": ["+"], "%": ["/"], "/": ["%"], ">>": ["<<"], "<<": [">>"], "+=": ["-="], "|=": ["=", "^="]}
 
 
-def near(number):
-    """The numbers beside one, as it is written."""
+def others_than(number):
+    """The numbers to put for one, as it is written, each with its kind: those beside it, 0, its half and its double."""
     digits = number.replace("_", "")
     base = 16 if digits.startswith("0x") else 10
     value = re.match(r"0x[0-9a-fA-F]+|\d+", digits).group()
     kind, was = digits[len(value) :], int(value, base)
-    for other in (was + 1, was - 1):
-        if other >= 0:
-            yield (f"{other:#x}" if base == 16 else str(other)) + kind
+    tried = [was]
+    for other, by in ((was + 1, "by one"), (was - 1, "by one"), (0, "far off"), (was // 2, "far off"), (was * 2, "far off")):
+        if other >= 0 and other not in tried:
+            tried.append(other)
+            yield f"constant {by}", (f"{other:#x}" if base == 16 else str(other)) + kind
 
 
-def in_line(line, types, locals_):
-    """The other ways to write one line of code: each a kind and a line. What is no code is blank in the line."""
-    shape = bare(line)
+def put(line, begin, end, new):
+    """The line with something else from one place to another."""
+    return line[:begin] + new + line[end:]
 
-    def put(begin, end, new):
-        return line[:begin] + new + line[end:]
 
+def other_signs(line, shape):
+    """Another comparison or operator, operands changed over, and one connective for the other."""
     for sign, table, kind in ((it, *pair) for pair in ((COMPARED, "another comparison"), (COUNTED, "another operator")) for it in pair[0]):
         for found in re.finditer(rf" {re.escape(sign)} ", shape):
             for other in table[sign]:
-                yield kind, put(found.start() + 1, found.end() - 1, other)
+                yield kind, put(line, found.start() + 1, found.end() - 1, other)
     for found in re.finditer(rf"({OPERAND}) (<|<=|>|>=|-|%|<<|>>) ({OPERAND})", shape):
         first, sign, second = (line[slice(*found.span(it))] for it in (1, 2, 3))
-        yield "swapped operands", put(*found.span(), f"{second} {sign} {first}")
+        yield "swapped operands", put(line, *found.span(), f"{second} {sign} {first}")
     for sign, other in (("&&", "||"), ("||", "&&")):
         for found in re.finditer(rf"(?<=[\w)]) {re.escape(sign)} |^\s*{re.escape(sign)} ", shape):
-            yield "and for or", put(found.start(), found.end(), found.group().replace(sign, other))
-    for found in re.finditer(r"(?<![\w.'])(0x[0-9a-f]+|\d[\d_]*)(?![\w.]|\.\.)|(?<![\w'])\d[\d_]*(?=\.\.)|(?<=\.\.)=?(?:0x[0-9a-f]+|\d[\d_]*)|\b\d+u\d+\b", shape):
+            yield "and for or", put(line, found.start(), found.end(), found.group().replace(sign, other))
+
+
+NUMBER = r"(?<![\w.'])(0x[0-9a-f]+|\d[\d_]*)(?![\w.]|\.\.)|(?<![\w'])\d[\d_]*(?=\.\.)|(?<=\.\.)=?(?:0x[0-9a-f]+|\d[\d_]*)|\b\d+u\d+\b"
+
+
+def other_constants(line, shape):
+    """Another number, letter or truth value."""
+    for found in re.finditer(NUMBER, shape):
         skip = found.group().startswith("=")
-        for other in near(found.group().lstrip("=")):
-            yield "constant by one", put(found.start() + skip, found.end(), other)
+        for kind, other in others_than(found.group().lstrip("=")):
+            yield kind, put(line, found.start() + skip, found.end(), other)
     for found in re.finditer(r"b?'([^'\\])'", line):
-        yield "constant by one", put(found.start(1), found.end(1), chr(ord(found.group(1)) + 1))
+        yield "constant by one", put(line, found.start(1), found.end(1), chr(ord(found.group(1)) + 1))
     for found in re.finditer(r'"([^"\\]+)"', line):
         at = next((it for it, letter in enumerate(found.group(1)) if letter.isalnum() and "{" not in found.group(1)[: it + 1]), None)
         if at is not None:
             at += found.start(1)
-            yield "constant by one", put(at, at + 1, chr(ord(line[at]) + 1))
+            yield "constant by one", put(line, at, at + 1, chr(ord(line[at]) + 1))
     for found in re.finditer(r"\b(true|false)\b", shape):
-        yield "constant by one", put(*found.span(), "false" if found.group() == "true" else "true")
+        yield "constant by one", put(line, *found.span(), "false" if found.group() == "true" else "true")
+
+
+def missed_cases(line, shape):
+    """A dropped not, a condition that always or never holds, an arm or a `?` left out."""
     for found in re.finditer(r"!(?=[\w(])", shape):
         if not re.search(r"\w$", shape[: found.start()]):
-            yield "a dropped not", put(*found.span(), "")
+            yield "a dropped not", put(line, *found.span(), "")
     for found in re.finditer(r"\bif (?!let )([^{]*[^{ ]) \{", shape):
-        yield "a missed case", put(*found.span(1), "false")
-        yield "a missed case", put(*found.span(1), "true")
+        yield "a missed case", put(line, *found.span(1), "false")
+        yield "a missed case", put(line, *found.span(1), "true")
     for found in re.finditer(r" if (?!let )[^{]*?(?= =>)", shape):
-        yield "a missed case", put(*found.span(), "")
+        yield "a missed case", put(line, *found.span(), "")
     if re.match(r"\s+[^=]*=> .*,$|\s*&& .*$", shape):
         yield "a missed case", ""
     for found in re.finditer(r"\b\w+\((\w+)\)\?", shape):
-        yield "a missed case", put(*found.span(), found.group(1))
+        yield "a missed case", put(line, *found.span(), found.group(1))
+
+
+def other_places(line, shape):
+    """An instant or a number of CPUs by one, another place of an array, and a loop that is one short."""
     for found in re.finditer(r"(?<=[(,] )?(?<![\w.])(age|t|n|cpus|instant|released)(?=[,)])", shape):
-        yield "constant by one", put(*found.span(), f"{found.group()}.saturating_sub(1)")
+        yield "constant by one", put(line, *found.span(), f"{found.group()}.saturating_sub(1)")
     for found in re.finditer(r"(?<=\w\[)(i|j|at|place)(?=\])", shape):
-        yield "another place", put(*found.span(), f"{found.group()} / 2")
+        yield "another place", put(line, *found.span(), f"{found.group()} / 2")
     for found in re.finditer(r"(?<![\w.])0\.\.(?=\w)", shape):
-        yield "a loop one short", put(*found.span(), "1..")
+        yield "a loop one short", put(line, *found.span(), "1..")
     for found in re.finditer(r"\.iter(_mut)?\(\)", shape):
-        yield "a loop one short", put(*found.span(), f"[1..]{found.group()}")
+        yield "a loop one short", put(line, *found.span(), f"[1..]{found.group()}")
     for found in re.finditer(r"(?<=members_of\()[\w.]+(?=\))", shape):
-        yield "a loop one short", put(*found.span(), f"{found.group()} & 0xffff_fffe")
-        yield "a loop one short", put(*found.span(), f"{found.group()} & 0x7fff_ffff")
+        yield "a loop one short", put(line, *found.span(), f"{found.group()} & 0xffff_fffe")
+        yield "a loop one short", put(line, *found.span(), f"{found.group()} & 0x7fff_ffff")
+
+
+def swapped_arguments(line, shape, types):
+    """Neighbouring arguments of one type changed over."""
     for found in re.finditer(r"(?<=[\w>!])\(", shape):
         depth = 0
         for end in range(found.start(), len(shape)):
@@ -194,23 +224,39 @@ def in_line(line, types, locals_):
         for at, ((a, b), (c, d)) in enumerate(zip(parts, parts[1:])):
             one, two = line[begin + a : begin + b].strip(), line[begin + c : begin + d].strip()
             if one != two and one and two and not (one + two).count('"') and (not called or types.may_swap(called.group(), at)):
-                yield "swapped arguments", put(begin + a, begin + d, (" " if a else "") + f"{two}, {one}")
+                yield "swapped arguments", put(line, begin + a, begin + d, (" " if a else "") + f"{two}, {one}")
+
+
+def others_of_the_type(line, shape, types, locals_):
+    """Another field, question, case, variable or policy of the same type."""
+    kind = "another of the type"
     for found in re.finditer(r"(?<=\.)(\w+)\b(?!\()", shape):
         for other in types.others(types.fields, found.group()):
-            yield "another of the type", put(*found.span(), other)
+            yield kind, put(line, *found.span(), other)
     for found in re.finditer(r"(?<=\.)(\w+)(?=\(\))", shape):
         for other in types.others(types.getters, found.group()):
-            yield "another of the type", put(*found.span(), other)
+            yield kind, put(line, *found.span(), other)
     for found in re.finditer(r"\b(\w+)::(\w+)", shape):
         for other in types.other_cases(*found.groups()):
-            yield "another of the type", put(*found.span(2), other)
+            yield kind, put(line, *found.span(2), other)
     for found in re.finditer(r"(?<![\w.:'])(\w+)\b(?![\w(!:])", shape):
         for other in locals_.get(found.group(), []):
             if re.fullmatch(r"\s+\w+,", shape):
-                yield "another of the type", put(*found.span(), f"{found.group()}: {other}")
-            yield "another of the type", put(*found.span(), other)
+                yield kind, put(line, *found.span(), f"{found.group()}: {other}")
+            yield kind, put(line, *found.span(), other)
     for found in re.finditer(r"(?<![\w.:])(Deadline|Rank)\b(?![:(])", shape):
-        yield "another of the type", put(*found.span(), "Rank" if found.group() == "Deadline" else "Deadline")
+        yield kind, put(line, *found.span(), "Rank" if found.group() == "Deadline" else "Deadline")
+
+
+def in_line(line, types, locals_):
+    """The other ways to write one line of code: each a kind and a line. What is no code is blank in the line."""
+    shape = bare(line)
+    yield from other_signs(line, shape)
+    yield from other_constants(line, shape)
+    yield from missed_cases(line, shape)
+    yield from other_places(line, shape)
+    yield from swapped_arguments(line, shape, types)
+    yield from others_of_the_type(line, shape, types, locals_)
 
 
 def locals_of(code, span):
@@ -275,50 +321,65 @@ def in_tail(line, given, answer):
                 yield "constant by one", f"{space}{value[: found.start()]}{new}{value[found.end() :]}"
 
 
+def in_tails(code, lines, span, first, last):
+    """The other ways to write what a function answers at its end, or an arm of a match there: the line, the kind and the line
+    then."""
+    answer = re.search(r"\) -> ([^{\n]+)", code[span.header : span.begin])
+    if not answer:
+        return
+    kind_of_answer, code_lines = answer.group(1).strip(), code.split("\n")
+    given = {name: kind.strip() for name, kind in re.findall(r"\b(\w+): ([^,)\n]+)", code[span.header : span.begin])}
+    for at in range(first, last + 1):
+        arm = re.match(r"(\s+(?:[^=]*=> )?)(Some\(.*\)|[^ {}]+?),?$", code_lines[at])
+        if arm and code_lines[at].rstrip() == lines[at] and ("=>" in arm.group(1) or "=>" in code_lines[at - 1]):
+            for kind, new in in_tail(arm.group(2), {}, kind_of_answer):
+                yield at, kind, arm.group(1) + new + "," * ("=>" in arm.group(1))
+    whole = re.search(r"[;{}]\s*$", bare("\n".join(code_lines[first : last - 1])))
+    if last > first + 1 and whole and re.match(r"\s*[^\s});]", code_lines[last - 1]) and code_lines[last - 1].rstrip() == lines[last - 1]:
+        for kind, new in in_tail(code_lines[last - 1], given, kind_of_answer):
+            yield last - 1, kind, new
+
+
+def in_body(code, lines, types, span, first, last):
+    """The bugs of a function's body, which stands from one line to another: the line, the kind and the lines then."""
+    locals_, code_lines = locals_of(code, span), code.split("\n")
+    for at in range(first + (first < last), last + 1):
+        line = code_lines[at]
+        if first == last:
+            line = " " * (span.begin - code.rfind("\n", 0, span.begin) - 1) + code[span.begin : span.end]
+        if line.strip() and lines[at].rstrip() == line.rstrip():
+            for kind, new in in_line(line, types, locals_):
+                yield at, kind, [new]
+    for begin, end in dropped(code, span):
+        a, b = code.count("\n", 0, begin), code.count("\n", 0, end)
+        if code_lines[a].strip().startswith(code[begin:end].split("\n")[0].strip()):
+            yield a, "a dropped write", unwritten(code_lines[a : b + 1])
+    for at, news in swapped_arms(code_lines, first, last):
+        yield at, "a missed case", news
+    for at, kind, new in in_tails(code, lines, span, first, last):
+        yield at, kind, [new]
+
+
 def bugs_of(text, types):
     """The bugs of a source file, in the order of their places."""
     code, lines = code_of(text), text.split("\n")
-    code_lines = code.split("\n")
-    number = lambda place: code.count("\n", 0, place)
     found = []
 
-    def add(function, at, kind, news):
+    def add(function, first, last, at, kind, news):
         news = tuple(new.rstrip() for new in news)
         if news != tuple(lines[at : at + len(news)]) and all((at + 1, news) != (it.line, it.news) for it in found):
-            found.append(Bug(function, at + 1, kind, news))
+            found.append(Bug(function, first + 1, last + 1, at + 1, kind, news))
 
     for span in spans(code):
-        locals_, first, last = locals_of(code, span), number(span.begin), number(span.end - 1)
-        for at in range(first + (first < last), last + 1):
-            line = code_lines[at]
-            if first == last:
-                line = " " * (span.begin - code.rfind("\n", 0, span.begin) - 1) + code[span.begin : span.end]
-            if line.strip() and lines[at].rstrip() == line.rstrip():
-                for kind, new in in_line(line, types, locals_):
-                    add(span.name, at, kind, [new])
-        for begin, end in dropped(code, span):
-            a, b = number(begin), number(end)
-            if code_lines[a].strip().startswith(code[begin:end].split("\n")[0].strip()):
-                add(span.name, a, "a dropped write", unwritten(code_lines[a : b + 1]))
-        for at, news in swapped_arms(code_lines, first, last):
-            add(span.name, at, "a missed case", news)
-        answer = re.search(r"\) -> ([^{\n]+)", code[span.header : span.begin])
-        given = {name: kind.strip() for name, kind in re.findall(r"\b(\w+): ([^,)\n]+)", code[span.header : span.begin])}
-        for at in range(first, last + 1):
-            arm = re.match(r"(\s+(?:[^=]*=> )?)(Some\(.*\)|[^ {}]+?),?$", code_lines[at])
-            if arm and answer and code_lines[at].rstrip() == lines[at] and ("=>" in arm.group(1) or "=>" in code_lines[at - 1]):
-                for kind, new in in_tail(arm.group(2), {}, answer.group(1).strip()):
-                    add(span.name, at, kind, [arm.group(1) + new + "," * ("=>" in arm.group(1))])
-        whole = re.search(r"[;{}]\s*$", bare("\n".join(code_lines[first : last - 1])))
-        if last > first + 1 and whole and re.match(r"\s*[^\s});]", code_lines[last - 1]) and answer and code_lines[last - 1].rstrip() == lines[last - 1]:
-            for kind, new in in_tail(code_lines[last - 1], given, answer.group(1).strip()):
-                add(span.name, last - 2 + 1, kind, [new])
-    for at, line in enumerate(code_lines):
+        head, first, last = (code.count("\n", 0, it) for it in (span.header, span.begin, span.end - 1))
+        for at, kind, news in in_body(code, lines, types, span, first, last):
+            add(span.name, head, last, at, kind, news)
+    for at, line in enumerate(code.split("\n")):
         if named := re.match(r"\s*(?:pub )?const (\w+): [^=]+= ", line):
             for kind, new in in_line(line, types, {}):
-                add(f"const {named.group(1)}", at, kind, [new])
+                add(f"const {named.group(1)}", at, at, at, kind, [new])
         if case := re.match(r"(\s+(\w+) = )(\d+),$", line):
-            add(f"case {case.group(2)}", at, "another constant", [f"{case.group(1)}{int(case.group(3)) + 100},"])
+            add(f"case {case.group(2)}", at, at, at, "another constant", [f"{case.group(1)}{int(case.group(3)) + 100},"])
     return found
 
 
