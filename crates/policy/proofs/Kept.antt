@@ -1,7 +1,8 @@
 -- The last of the jobs of a set, and a set that has one for each CPU and whose last no other job stands before.
-use Rattle.std.proofs.Common.{◌≡◌, ◌≢◌, ℕ, ◌+◌, ◌<◌, ◌≤◌, ◌^◌, Bool, true, false, cond, ◌⊎◌, not, ◌&&◌, eqb, List, get_or, is_some, Some, None, Option, sym, refl, ap, ◌∙◌, subst, ⊎_elim, arith}
-use Rattle.std.proofs.lemmas.Bool.{both_ways, and_parts, cases_Bool, cases_eq, cases_lt, eq-eqb, ne_eqb, lt-ltb, le-ltb}
-use Rattle.std.proofs.Math.Bool.{and-true, and-false}
+use Rattle.std.proofs.Common.{◌≡◌, ◌≢◌, ℕ, ◌+◌, ◌-◌, ◌<◌, ◌≤◌, ◌^◌, Bool, true, false, cond, ◌⊎◌, not, ◌&&◌, eqb, List, get_or, is_some, Some, None, Option, sym, refl, ap, ◌∙◌, subst, w32, ⊎_elim, arith}
+use Rattle.std.proofs.lemmas.Bool.{both_ways, and_from, and_parts, and_right, cases_Bool, cases_eq, cases_lt, eq-eqb, ne_eqb, lt-ltb, le-ltb}
+use lib.Bits.{bit_and}
+use Rattle.std.specs.Int.{bit_not}
 use Rattle.schedule.specs.Counting.{count_below}
 use Rattle.schedule.proofs.Sums.{count_mono, count_lt, count_one_more}
 use Rattle.schedule.proofs.Counts.{count_zero}
@@ -17,7 +18,7 @@ use Rattle.policy.specs.Slots.{keys_of, later_of, LastOf, LastTo, RunSoFar, Runs
 use Rattle.policy.proofs.Ranks.{before_itself, before_total, before_through}
 use Rattle.policy.proofs.Rising.{first, Turn, next_past}
 use Rattle.policy.proofs.Running.{runs_at, runs_of, set_by_ages}
-use Rattle.policy.proofs.Words.{none_has, word_is}
+use Rattle.policy.proofs.Words.{none_has, without_has, word_is}
 
 pub same_some : {A : Type 0} (o : Option A) (a b : A) → o ≡ Some a → o ≡ Some b → a ≡ b
 same_some o a b e f = let g : Some a ≡ Some b = sym e ∙ f in cc
@@ -177,55 +178,71 @@ module _ {P K : Type 0} (keyed : P → Entry → ℕ → K) (le : P → K → K 
           word_is (runs_of (le s.policy.now) (keys_of keyed s) s.cpus) set low member_runs
           ∙ set_by_ages (keyed s.policy.now) (le s.policy.now) (entry_at s.tasks.now) left s.jobs s.released.now s.cpus s.instant known
 
-    -- 3. a set with one job for each CPU, whose last has fewer jobs before it than there are CPUs: nobody else stands before it
-    module _ (set : ℕ) (job : Job K) (inside : Within set s.jobs) (last : LastOf keyed le s set 32 job) where
+    -- 3. a set with one job for each CPU, whose last has fewer jobs before it than there are CPUs: none of the rest stands before it
+    abbrev NoneBefore : (set : ℕ) → Job K → Type 0
+    NoneBefore set job = (i : ℕ) (k : K) → i < 32 → has set i ≡ true → keys_of keyed s i ≡ Some k → before k i job.key job.place ≡ false
+
+    module _ (set : ℕ) (low : set < 2 ^ 32) (job : Job K) (inside : Within set s.jobs) (last : LastOf keyed le s set 32 job) where
+      abbrev rest : ℕ
+      rest = bit_and s.jobs (bit_not w32 set)
+
+      others : (i : ℕ) → i < 32 → has rest i ≡ (has s.jobs i && not (has set i))
+      others i h = without_has s.jobs set i (omega arith) h
+
       abbrev pub ahead_last : ℕ → Bool
       ahead_last j = ahead_of (le s.policy.now) (keys_of keyed s j) j job.key job.place
 
+      -- the others of the set stand before its last, and nobody else outside of the rest does
       other_ahead : (i : ℕ) → i < 32 → has set i ≡ true → i ≢ job.place → ahead_last i ≡ true
       other_ahead i h on ne = let (k, e) = key_there i h (inside i h on) in ap (λ o. ahead_of (le s.policy.now) o i job.key job.place) e ∙ last.others i k h on ne e
 
       not_itself : ahead_last job.place ≡ false
       not_itself = ap (λ o. ahead_of (le s.policy.now) o job.place job.key job.place) last.key ∙ before_itself (le s.policy.now) job.key job.place
 
-      pub member_ahead : (i : ℕ) → i < 32 → has set i ≡ true → not (eqb i job.place) ≡ ahead_last i
-      member_ahead i h on =
+      ahead_there : (i : ℕ) (o : Option K) → keys_of keyed s i ≡ o → ahead_of (le s.policy.now) o i job.key job.place ≡ true → has s.jobs i ≡ true
+      ahead_there i None e h = absurd (cc)
+      ahead_there i (Some k) e h = there_of i k e
+
+      abbrev known : ℕ → Bool
+      known j = ahead_last j && not (has rest j)
+
+      known_is : (i : ℕ) → i < 32 → i ≢ job.place → known i ≡ has set i
+      known_is i h ne =
           ⊎_elim
-          (λ (at : i ≡ job.place). ap not (eq-eqb i job.place at) ∙ sym (ap ahead_last at ∙ not_itself))
-          (λ (ne : i ≢ job.place). ap not (ne_eqb i job.place ne) ∙ sym (other_ahead i h on ne))
-          (cases_eq i job.place)
+          (λ (on : has set i ≡ true).
+          let out : has rest i ≡ false = others i h ∙ and_right (has s.jobs i) (not (has set i)) (ap not on) in
+          and_from (ahead_last i) (not (has rest i)) (other_ahead i h on ne) (ap not out) ∙ sym on)
+          (λ (off : has set i ≡ false).
+          ⊎_elim
+          (λ (up : ahead_last i ≡ true).
+          let in_rest : has rest i ≡ true = others i h ∙ and_from (has s.jobs i) (not (has set i)) (ahead_there i (keys_of keyed s i) refl up) (ap not off) in
+          and_right (ahead_last i) (not (has rest i)) (ap not in_rest) ∙ sym off)
+          (λ (down : ahead_last i ≡ false). ap (λ b. b && not (has rest i)) down ∙ sym off)
+          (cases_Bool (ahead_last i)))
+          (cases_Bool (has set i))
+
+      known_count : count_below 32 (has set) ≡ count_below 32 known + 1
+      known_count = count_one_more 32 known (has set) job.place last.place (λ i h ne. known_is i h ne) (ap (λ b. b && not (has rest job.place)) not_itself) last.member
+
+      pub one_less : (count : ℕ) → count ≡ count_below 32 (has set) → (1 ≤ count) × (count - 1 ≡ count_below 32 known)
+      one_less count e = (omega (arith, known_count), omega (arith, known_count))
 
       module _ (busy : count_below 32 (has set) ≡ s.cpus) (few : count_ahead (le s.policy.now) (keys_of keyed s) job.key job.place < s.cpus) where
-        -- the others of the set
-        abbrev beside : ℕ → Bool
-        beside j = has set j && not (eqb j job.place)
-
-        others_count : count_below 32 (has set) ≡ count_below 32 beside + 1
-        others_count =
-            count_one_more 32 beside (has set) job.place last.place
-            (λ i h ne. ap (λ b. has set i && not b) (ne_eqb i job.place ne) ∙ and-true (has set i))
-            (ap (λ b. has set job.place && not b) (eq-eqb job.place job.place refl) ∙ and-false (has set job.place))
-            last.member
-
-        others_ahead : (i : ℕ) → i < 32 → beside i ≡ true → ahead_last i ≡ true
-        others_ahead i h q =
-            let parts = and_parts (has set i) (not (eqb i job.place)) q in
-            other_ahead i h parts.0 (λ at. both_ways (not (eqb i job.place)) (ap not (eq-eqb i job.place at)) parts.1)
-
-        none_before : (i : ℕ) (k : K) → i < 32 → has set i ≡ false → keys_of keyed s i ≡ Some k → before k i job.key job.place ≡ false
-        none_before i k h off e =
+        none_before : NoneBefore rest job
+        none_before i k h on e =
             ⊎_elim
             (λ (up : before k i job.key job.place ≡ true).
-            let more : count_below 32 beside < count_below 32 ahead_last =
-            count_lt 32 beside ahead_last i h others_ahead (ap (λ b. b && not (eqb i job.place)) off) (ap (λ o. ahead_of (le s.policy.now) o i job.key job.place) e ∙ up) in
-            absurd (omega (arith, others_count)))
+            let more : count_below 32 known < count_below 32 ahead_last =
+            count_lt 32 known ahead_last i h (λ j l q. (and_parts (ahead_last j) (not (has rest j)) q).0) (and_right (ahead_last i) (not (has rest i)) (ap not on)) (ap (λ o. ahead_of (le s.policy.now) o i job.key job.place) e ∙ up) in
+            absurd (omega (arith, known_count)))
             (λ (down : before k i job.key job.place ≡ false). down)
             (cases_Bool (before k i job.key job.place))
 
         kept_ahead : (i j : ℕ) (k l : K) → i < 32 → j < 32 → has set i ≡ true → has set j ≡ false → keys_of keyed s i ≡ Some k → keys_of keyed s j ≡ Some l → before k i l j ≡ true
         kept_ahead i j k l hi hj on off e f =
             let apart : j ≢ job.place = λ q. both_ways (has set j) off (ap (has set) q ∙ last.member) in
-            let past : before job.key job.place l j ≡ true = other_way l job.key j job.place apart (none_before j l hj off f) in
+            let in_rest : has rest j ≡ true = others j hj ∙ and_from (has s.jobs j) (not (has set j)) (there_of j l f) (ap not off) in
+            let past : before job.key job.place l j ≡ true = other_way l job.key j job.place apart (none_before j l hj in_rest f) in
             ⊎_elim
             (λ (at : i ≡ job.place).
             let same : job.key ≡ k = same_some (keys_of keyed s i) job.key k (ap (keys_of keyed s) at ∙ last.key) e in
@@ -233,8 +250,8 @@ module _ {P K : Type 0} (keyed : P → Entry → ℕ → K) (le : P → K → K 
             (λ (ne : i ≢ job.place). before_through (le s.policy.now) trans k job.key l i job.place j (last.others i k hi on ne e) past)
             (cases_eq i job.place)
 
-        pub kept_runs : set < 2 ^ 32 → Runs keyed le s set
-        kept_runs low = front_runs set inside kept_ahead (omega (arith, busy)) (λ j h on off. omega (arith, busy)) low
+        pub kept_runs : Runs keyed le s set
+        kept_runs = front_runs set inside kept_ahead (omega (arith, busy)) (λ j h on off. omega (arith, busy)) low
 
     -- 4. the jobs one after another
     pub none_run : (n : ℕ) → NextIn s.jobs 0 n → RunSoFar keyed le s n (record { set = 0; last = None; free = s.cpus })

@@ -1,7 +1,8 @@
-ghost use Rattle.std.specs.Prelude.{◌≡◌, ◌<◌, true, nat_lt};
+ghost use Rattle.std.specs.Prelude.{◌≡◌, true, not, ◌&&◌, nat_lt};
+ghost use Rattle.schedule.specs.Counting.{count_below};
 ghost use Rattle.policy.specs.Dispatch.{ahead_of, count_ahead};
 ghost use Rattle.policy.specs.Members.{has, Within};
-ghost use Rattle.policy.specs.Slots.{keys_of, LastOf, Runs};
+ghost use Rattle.policy.specs.Slots.{keys_of, Runs};
 
 use crate::choosing::{Job, stands_before};
 use crate::policy::Policy;
@@ -9,36 +10,21 @@ use crate::slot::Slot;
 use crate::walk::members_of;
 
 impl<P: Policy> Slot<'_, P> {
-    // Whether the job of task `j` stands before the last job of the set. The others of the set do, so that no key is made.
-    fn is_ahead(&self, set: u32, last: &Job<P::Key>, j: usize) -> bool
-        requires place { j < 32 }
-        requires job { has self.now.jobs j ≡ true }
-        requires inside { Within set self.now.jobs }
-        requires last { LastOf P.Policy.keyed P.Policy.precedes self.now set 32 last.now }
-        ensures { result ≡ ahead_of (P.Policy.precedes self.now.policy.now) (keys_of P.Policy.keyed self.now j) j last.now.key last.now.place }
+    // Whether fewer active jobs than there are CPUs stand before the job, where `known` of those outside of `rest` do.
+    fn few_ahead(&self, job: &Job<P::Key>, known: u8, rest: u32) -> bool
+        requires rest { Within rest self.now.jobs }
+        requires known { known ≡ count_below 32 (λ j. ahead_of (P.Policy.precedes self.now.policy.now) (keys_of P.Policy.keyed self.now j) j job.now.key job.now.place && not (has rest j)) }
+        ensures { result ≡ nat_lt (count_ahead (P.Policy.precedes self.now.policy.now) (keys_of P.Policy.keyed self.now) job.now.key job.now.place) self.now.cpus }
     {
-        if (set >> j) % 2 == 1 {
-            return j != last.place;
-        }
         let tasks = self.tasks; // a name of its own, by which the table's length is known
-        match &tasks[j] {
-            Some(task) => stands_before(self.policy, &self.job_of(task, j), last),
-            None => false,
-        }
-    }
-
-    // Whether fewer active jobs than there are CPUs stand before the last job of the set.
-    fn few_ahead(&self, set: u32, last: &Job<P::Key>) -> bool
-        requires inside { Within set self.now.jobs }
-        requires last { LastOf P.Policy.keyed P.Policy.precedes self.now set 32 last.now }
-        ensures { result ≡ nat_lt (count_ahead (P.Policy.precedes self.now.policy.now) (keys_of P.Policy.keyed self.now) last.now.key last.now.place) self.now.cpus }
-    {
-        let mut ahead: u8 = 0;
-        for j in members_of(self.jobs) {
+        let mut ahead = known;
+        for j in members_of(rest) {
             if ahead >= self.cpus {
                 return false;
             }
-            if self.is_ahead(set, last, j) {
+            if let Some(task) = &tasks[j]
+                && stands_before(self.policy, &self.job_of(task, j), job)
+            {
                 ahead += 1;
             }
         }
@@ -53,7 +39,9 @@ impl<P: Policy> Slot<'_, P> {
     {
         let (last, count) = self.last_of(set);
         match last {
-            Some(last) if count == self.cpus => self.few_ahead(set, &last),
+            Some(last) if count == self.cpus => {
+                self.few_ahead(&last, count - 1, self.jobs & !set)
+            }
             _ => false,
         }
     }
