@@ -1,4 +1,4 @@
-use Rattle.std.proofs.Common.{sym, ◌∙◌, ⊎_elim}
+use Rattle.std.proofs.Common.{rules, sym, ◌∙◌, ⊎_elim}
 use Rattle.judge.proofs.Spelled.{spelled, by_digits}
 use Rattle.judge.proofs.spelling.read_sheet.Goals as goal
 
@@ -9,3 +9,9 @@ pub returns-in_default : goal.returns-in_default
 returns-in_default c =
     let digits = by_digits c.args.line.now _ c.without_return-word.ensures (sym c.if-is_hyphen.ensures) in
     ⊎_elim (λ memory. absurd (c.in_default.not-OutOfMemory memory)) (λ bad. sym (digits ∙ spelled _ _ bad)) c.in-Err.ensures.err
+
+pub returns-in-OutOfMemory : goal.returns-in-OutOfMemory
+returns-in-OutOfMemory c = search rules
+
+pub returns-then-is_hyphen : goal.returns-then-is_hyphen
+returns-then-is_hyphen c = search rules
