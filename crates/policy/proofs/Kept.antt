@@ -1,11 +1,10 @@
 -- The last of the jobs of a set, and a set that has one for each CPU and whose last no other job stands before.
-use Rattle.std.proofs.Common.{◌≡◌, ◌≢◌, ℕ, ◌+◌, ◌-◌, ◌<◌, ◌≤◌, ◌^◌, Bool, true, false, cond, ◌⊎◌, not, ◌&&◌, eqb, List, get_or, is_some, Some, None, Option, sym, refl, ap, ◌∙◌, subst, w32, ⊎_elim, arith}
+use Rattle.std.proofs.Common.{inl, inr, ◌≡◌, ◌≢◌, ℕ, ◌+◌, ◌-◌, ◌<◌, ◌≤◌, ◌^◌, Bool, true, false, cond, ◌⊎◌, not, ◌&&◌, eqb, List, get_or, is_some, Some, None, Option, sym, refl, ap, ◌∙◌, subst, w32, ⊎_elim, arith}
 use Rattle.std.proofs.lemmas.Bool.{both_ways, and_from, and_parts, and_right, cases_Bool, cases_eq, cases_lt, eq-eqb, ne_eqb, lt-ltb, le-ltb}
 use lib.Bits.{bit_and}
 use Rattle.std.specs.Int.{bit_not}
 use Rattle.schedule.specs.Counting.{count_below}
 use Rattle.schedule.proofs.Sums.{count_mono, count_lt, count_one_more}
-use Rattle.schedule.proofs.Counts.{count_zero}
 use Rattle.task.specs.declared.entry.Entry.{Entry}
 use Rattle.task.specs.Tables.{entry_at}
 use Rattle.policy.specs.declared.slot.Slot.{Slot}
@@ -14,11 +13,11 @@ use Rattle.policy.specs.declared.choosing.Job.{Job}
 use Rattle.policy.specs.Dispatch.{key_at, since, ahead_of, count_ahead}
 use Rattle.policy.specs.Members.{has, NextIn, Within}
 use Rattle.policy.specs.Order.{stands_before}
-use Rattle.policy.specs.Slots.{keys_of, later_of, LastOf, LastTo, RunSoFar, Runs}
+use Rattle.policy.specs.Slots.{keys_of, later_of, LastOf, LastTo, Met, RunSoFar, Runs}
 use Rattle.policy.proofs.Ranks.{before_itself, before_total, before_through}
 use Rattle.policy.proofs.Rising.{first, Turn, next_past}
 use Rattle.policy.proofs.Running.{runs_at, runs_of, set_by_ages}
-use Rattle.policy.proofs.Words.{none_has, without_has, word_is}
+use Rattle.policy.proofs.Words.{without_has, word_is}
 
 pub same_some : {A : Type 0} (o : Option A) (a b : A) → o ≡ Some a → o ≡ Some b → a ≡ b
 same_some o a b e f = let g : Some a ≡ Some b = sym e ∙ f in cc
@@ -253,61 +252,82 @@ module _ {P K : Type 0} (keyed : P → Entry → ℕ → K) (le : P → K → K 
         pub kept_runs : Runs keyed le s set
         kept_runs = front_runs set inside kept_ahead (omega (arith, busy)) (λ j h on off. omega (arith, busy)) low
 
-    -- 4. the jobs one after another
-    pub none_run : (n : ℕ) → NextIn s.jobs 0 n → RunSoFar keyed le s n (record { set = 0; last = None; free = s.cpus })
-    none_run n next =
-        record {
-          inside = λ i h on. absurd (both_ways (has 0 i) (none_has i) on);
-          ahead = λ i j k l h m on. absurd (both_ways (has 0 i) (none_has i) on);
-          places = omega (arith, count_zero 32 (has 0) (λ i h on. both_ways (has 0 i) (none_has i) on));
-          free = λ some i h on. absurd (both_ways (has s.jobs i) (next.skipped i (omega arith) h) on);
-          last = λ i h. none_has i;
-          word = omega arith;
-        }
+    -- 4. the jobs one after another: at first those that are kept run, and the others are still to come
+    module _ (kept rest : ℕ) (rest_is : (i : ℕ) → i < 32 → has rest i ≡ (has s.jobs i && not (has kept i))) (inside : Within kept s.jobs) where
+      pub kept_first : (o : Option (Job K)) → LastTo keyed le s kept 32 o → (free : ℕ) → count_below 32 (has kept) + free ≡ s.cpus → kept < 4294967296
+          → RunSoFar keyed le s 0 (record { rest = rest; set = kept; last = o; free = free })
+      kept_first o last free places word =
+          record {
+            inside = λ i h on. (inside i h on, inr (rest_is i h ∙ and_right (has s.jobs i) (not (has kept i)) (ap not on)));
+            ahead = λ i j k l h m met on off e f. absurd (both_ways (has kept j) off (all_in j m met (there_of j l f)));
+            places = places;
+            free = λ some i h met on. all_in i h met on;
+            last = last;
+            word = word;
+          }
+        where
+          all_in : (j : ℕ) → j < 32 → (j < 0) ⊎ (has rest j ≡ false) → has s.jobs j ≡ true → has kept j ≡ true
+          all_in j h met on =
+              ⊎_elim
+              (λ (l : j < 0). absurd (omega arith))
+              (λ (off : has rest j ≡ false).
+              ⊎_elim
+              (λ (in_kept : has kept j ≡ true). in_kept)
+              (λ (out : has kept j ≡ false). absurd (both_ways (has rest j) off (rest_is j h ∙ and_from (has s.jobs j) (not (has kept j)) on (ap not out))))
+              (cases_Bool (has kept j)))
+              met
 
-    -- numbers that have no job change nothing
-    pub run_on : (n m : ℕ) (c : Contest K) → n ≤ m → m ≤ 32 → ((i : ℕ) → n ≤ i → i < m → has s.jobs i ≡ false) → RunSoFar keyed le s n c → RunSoFar keyed le s m c
-    run_on n m c up top none r =
+    -- what was gone through stays so
+    still_met : (c : Contest K) (n m j : ℕ) → n ≤ m → Met c n j → Met c m j
+    still_met c n m j up met = ⊎_elim (λ (l : j < n). inl (omega arith)) (λ (off : has c.rest j ≡ false). inr off) met
+
+    -- numbers that are not of the rest change nothing
+    pub run_on : (n m : ℕ) (c : Contest K) → n ≤ m → ((i : ℕ) → n ≤ i → i < m → has c.rest i ≡ false) → RunSoFar keyed le s n c → RunSoFar keyed le s m c
+    run_on n m c up none r =
         record {
-          inside = λ i h on. let was = r.inside i h on in (was.0, omega (arith, was.1));
-          ahead = λ i j k l h low on off e f. r.ahead i j k l h (below j low (there_of j l f)) on off e f;
+          inside = λ i h on. let was = r.inside i h on in (was.0, still_met c n m i up was.1);
+          ahead = λ i j k l h low met on off e f. r.ahead i j k l h low (was_met j met) on off e f;
           places = r.places;
-          free = λ some i low on. r.free some i (below i low on) on;
+          free = λ some i h met on. r.free some i h (was_met i met) on;
           last = r.last;
           word = r.word;
         }
       where
-        below : (j : ℕ) → j < m → has s.jobs j ≡ true → j < n
-        below j low on =
+        was_met : (j : ℕ) → Met c m j → Met c n j
+        was_met j met =
             ⊎_elim
-            (λ (l : j < n). l)
-            (λ (h : n ≤ j). absurd (both_ways (has s.jobs j) (none j h low) on))
-            (cases_lt j n)
+            (λ (low : j < m). ⊎_elim (λ (l : j < n). inl l) (λ (h : n ≤ j). inr (none j h low)) (cases_lt j n))
+            (λ (off : has c.rest j ≡ false). inr off)
+            met
 
     pub all_run : (c : Contest K) → RunSoFar keyed le s 32 c → Runs keyed le s c.set
     all_run c r =
-        front_runs c.set (λ i h on. (r.inside i h on).0) (λ i j k l h m on off e f. r.ahead i j k l h m on off e f) (omega (arith, r.places))
+        front_runs c.set (λ i h on. (r.inside i h on).0) (λ i j k l h m on off e f. r.ahead i j k l h m (inl m) on off e f) (omega (arith, r.places))
         (λ j h on off.
         ⊎_elim
-        (λ (some : 0 < c.free). absurd (both_ways (has c.set j) off (r.free some j h on)))
+        (λ (some : 0 < c.free). absurd (both_ways (has c.set j) off (r.free some j h (inl h) on)))
         (λ (none : c.free ≤ 0). omega (arith, r.places))
         (cases_lt 0 c.free))
         (omega (arith, r.word))
 
     -- one job more, at n ..
-    module _ (c : Contest K) (job : Job K) (low : job.place < 32) (key : keys_of keyed s job.place ≡ Some job.key) (r : RunSoFar keyed le s job.place c) where
+    module _ (c : Contest K) (job : Job K) (low : job.place < 32) (new : has c.rest job.place ≡ true) (key : keys_of keyed s job.place ≡ Some job.key) (r : RunSoFar keyed le s job.place c) where
       abbrev n : ℕ
       n = job.place
 
       out : has c.set n ≡ false
       out =
           ⊎_elim
-          (λ (on : has c.set n ≡ true). absurd (omega (arith, (r.inside n low on).1)))
+          (λ (on : has c.set n ≡ true). ⊎_elim (λ (l : n < n). absurd (omega arith)) (λ (gone : has c.rest n ≡ false). absurd (both_ways (has c.rest n) gone new)) (r.inside n low on).1)
           (λ (off : has c.set n ≡ false). off)
           (cases_Bool (has c.set n))
 
       here : has s.jobs n ≡ true
       here = there_of n job.key key
+
+      -- who but it was gone through now was so before
+      met_before : (j : ℕ) → j ≢ n → Met c (n + 1) j → Met c n j
+      met_before j ne met = ⊎_elim (λ (l : j < n + 1). inl (omega arith)) (λ (off : has c.rest j ≡ false). inr off) met
 
       -- .. where a CPU is free
       module _ (set : ℕ) (is : (i : ℕ) → i < 32 → has set i ≡ cond (eqb i n) true (has c.set i)) where
@@ -320,26 +340,26 @@ module _ {P K : Type 0} (keyed : P → Entry → ℕ → K) (le : P → K → K 
         was_in : (i : ℕ) → i < 32 → i ≢ n → has set i ≡ true → has c.set i ≡ true
         was_in i h ne on = sym (with_same i h ne) ∙ on
 
-        pub one_placed : set < 4294967296 → (free : ℕ) → c.free ≡ free + 1 → RunSoFar keyed le s (n + 1) (record { set = set; last = Some (later_of (le s.policy.now) c.last job); free = free })
+        pub one_placed : set < 4294967296 → (free : ℕ) → c.free ≡ free + 1 → RunSoFar keyed le s (n + 1) (record { rest = c.rest; set = set; last = Some (later_of (le s.policy.now) c.last job); free = free })
         one_placed word free f =
             record {
               inside = λ i h on.
                   ⊎_elim
-                  (λ (at : i ≡ n). (ap (has s.jobs) at ∙ here, omega arith))
-                  (λ (ne : i ≢ n). let was = r.inside i h (was_in i h ne on) in (was.0, omega (arith, was.1)))
+                  (λ (at : i ≡ n). (ap (has s.jobs) at ∙ here, inl (omega arith)))
+                  (λ (ne : i ≢ n). let was = r.inside i h (was_in i h ne on) in (was.0, still_met c n (n + 1) i (omega arith) was.1))
                   (cases_eq i n);
-              ahead = λ i j k l h m on off e g. absurd (both_ways (has set j) off (all_in j m (there_of j l g)));
+              ahead = λ i j k l h m met on off e g. absurd (both_ways (has set j) off (all_in j m met (there_of j l g)));
               places = omega (arith, r.places, f, count_one_more 32 (has c.set) (has set) n low (λ i h ne. sym (with_same i h ne)) out with_it);
-              free = λ some i m on. all_in i m on;
+              free = λ some i m met on. all_in i m met on;
               last = later_last c.set set 32 32 job low (omega arith) with_it key (λ i h on. let ne : i ≢ n = λ q. both_ways (has c.set i) (ap (has c.set) q ∙ out) on in (ne, with_same i h ne ∙ on)) (λ i h on ne. (h, was_in i h ne on)) c.last r.last;
               word = word;
             }
           where
-            all_in : (j : ℕ) → j < n + 1 → has s.jobs j ≡ true → has set j ≡ true
-            all_in j m on =
+            all_in : (j : ℕ) → j < 32 → Met c (n + 1) j → has s.jobs j ≡ true → has set j ≡ true
+            all_in j m met on =
                 ⊎_elim
                 (λ (at : j ≡ n). ap (has set) at ∙ with_it)
-                (λ (ne : j ≢ n). with_same j (omega arith) ne ∙ r.free (omega (arith, f)) j (omega arith) on)
+                (λ (ne : j ≢ n). with_same j m ne ∙ r.free (omega (arith, f)) j m (met_before j ne met) on)
                 (cases_eq j n)
 
       -- .. where no CPU is free, and a job runs last
@@ -350,13 +370,13 @@ module _ {P K : Type 0} (keyed : P → Entry → ℕ → K) (le : P → K → K 
             let apart : n ≢ a.place = λ q. both_ways (has c.set n) out (ap (has c.set) q ∙ last.member) in
             let past : before a.key a.place job.key n ≡ true = other_way job.key a.key n a.place apart behind in
             record {
-              inside = λ i h on. let was = r.inside i h on in (was.0, omega (arith, was.1));
-              ahead = λ i j k l h m on off e g.
+              inside = λ i h on. let was = r.inside i h on in (was.0, still_met c n (n + 1) i (omega arith) was.1);
+              ahead = λ i j k l h m met on off e g.
                   ⊎_elim
                   (λ (at : j ≡ n).
                   let same : job.key ≡ l = same_some (keys_of keyed s j) job.key l (ap (keys_of keyed s) at ∙ key) g in
                   ap (λ x. before k i l x) at ∙ (ap (λ q. before k i q n) (sym same) ∙ before_new i k h on e past))
-                  (λ (ne : j ≢ n). r.ahead i j k l h (omega arith) on off e g)
+                  (λ (ne : j ≢ n). r.ahead i j k l h m (met_before j ne met) on off e g)
                   (cases_eq j n);
               places = r.places;
               free = λ some. absurd (omega (arith, none_free));
@@ -413,25 +433,24 @@ module _ {P K : Type 0} (keyed : P → Entry → ℕ → K) (le : P → K → K 
                 (λ (ne : i ≢ n). let was = other i h (sym (set_same i h ne) ∙ on) in last.others i k h was.1 was.0 e)
                 (cases_eq i n)
 
-            pub one_displaces : set < 4294967296 → (o : Option (Job K)) → LastTo keyed le s others 32 o → RunSoFar keyed le s (n + 1) (record { set = set; last = Some (later_of (le s.policy.now) o job); free = 0 })
+            pub one_displaces : set < 4294967296 → (o : Option (Job K)) → LastTo keyed le s others 32 o → RunSoFar keyed le s (n + 1) (record { rest = c.rest; set = set; last = Some (later_of (le s.policy.now) o job); free = 0 })
             one_displaces word o lasts =
                 record {
                   inside = λ i h on.
                       ⊎_elim
-                      (λ (at : i ≡ n). (ap (has s.jobs) at ∙ here, omega arith))
-                      (λ (ne : i ≢ n). let was = r.inside i h (other i h (sym (set_same i h ne) ∙ on)).1 in (was.0, omega (arith, was.1)))
+                      (λ (at : i ≡ n). (ap (has s.jobs) at ∙ here, inl (omega arith)))
+                      (λ (ne : i ≢ n). let was = r.inside i h (other i h (sym (set_same i h ne) ∙ on)).1 in (was.0, still_met c n (n + 1) i (omega arith) was.1))
                       (cases_eq i n);
-                  ahead = λ i j k l h m on off e g.
-                      let low_j : j < 32 = omega arith in
+                  ahead = λ i j k l h m met on off e g.
                       let first : before k i a.key a.place ≡ true = first_of i k h on e in
                       ⊎_elim
                       (λ (at : j ≡ a.place).
                       let same : a.key ≡ l = same_some (keys_of keyed s j) a.key l (ap (keys_of keyed s) at ∙ last.key) g in
                       ap (λ x. before k i l x) at ∙ (ap (λ q. before k i q a.place) (sym same) ∙ first))
                       (λ (ne : j ≢ a.place).
-                      let new : j ≢ n = λ q. both_ways (has set j) off (ap (has set) q ∙ set_it) in
-                      let was_out : has c.set j ≡ false = sym (left_in j low_j ne) ∙ (sym (set_same j low_j new) ∙ off) in
-                      before_through (le s.policy.now) trans k a.key l i a.place j first (r.ahead a.place j a.key l last.place (omega arith) last.member was_out last.key g))
+                      let apart : j ≢ n = λ q. both_ways (has set j) off (ap (has set) q ∙ set_it) in
+                      let was_out : has c.set j ≡ false = sym (left_in j m ne) ∙ (sym (set_same j m apart) ∙ off) in
+                      before_through (le s.policy.now) trans k a.key l i a.place j first (r.ahead a.place j a.key l last.place m (met_before j apart met) last.member was_out last.key g))
                       (cases_eq j a.place);
                   places = omega (
                     arith,
@@ -450,7 +469,7 @@ module _ {P K : Type 0} (keyed : P → Entry → ℕ → K) (le : P → K → K 
       none_for_it none_free empty lasts =
           record {
             inside = λ i h on. absurd (both_ways (has c.set i) (empty i h) on);
-            ahead = λ i j k l h m on. absurd (both_ways (has c.set i) (empty i h) on);
+            ahead = λ i j k l h m met on. absurd (both_ways (has c.set i) (empty i h) on);
             places = r.places;
             free = λ some. absurd (omega (arith, none_free));
             last = lasts;

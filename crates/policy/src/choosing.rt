@@ -1,4 +1,4 @@
-ghost use Rattle.std.specs.Prelude.{◌≡◌, ◌+◌, ◌<◌, None, Some, MatchOption, slice_index};
+ghost use Rattle.std.specs.Prelude.{◌≡◌, ◌+◌, ◌<◌, ◌≤◌, true, None, Some, MatchOption, slice_index};
 ghost use Rattle.schedule.specs.Counting.{count_below};
 ghost use Rattle.policy.specs.Dispatch.{since};
 ghost use Rattle.policy.specs.Members.{has, Within};
@@ -18,10 +18,11 @@ pub(crate) struct Job<K> {
     pub(crate) key: K,
 }
 
-// The jobs that run, as far as the jobs were gone through: their set, the last of them, which the others stand before, and how
-// many CPUs are free.
+// The jobs that run, as far as those of `rest` were gone through, which are all but those it began with: their set, the last
+// of them, which the others stand before, and how many CPUs are free.
 #[derive(Drop)]
 struct Contest<K> {
+    rest: u32,
     set: u32,
     last: Option<Job<K>>,
     free: u8,
@@ -105,13 +106,16 @@ impl<P: Policy> Slot<'_, P> {
     // One job more: it runs where a CPU is free, or in the place of the last that runs where it stands before that one.
     fn admit(&self, contest: Contest<P::Key>, job: Job<P::Key>) -> Contest<P::Key>
         requires place { job.place < 32 }
+        requires rest { has contest.rest job.place ≡ true }
         requires key { keys_of P.Policy.keyed self.now job.place ≡ Some job.key }
         requires so_far { RunSoFar P.Policy.keyed P.Policy.precedes self.now job.place contest }
-        ensures { RunSoFar P.Policy.keyed P.Policy.precedes self.now (job.place + 1) result }
+        ensures so_far { RunSoFar P.Policy.keyed P.Policy.precedes self.now (job.place + 1) result }
+        ensures rest { result.rest ≡ contest.rest }
     {
         let place = job.place;
         if contest.free > 0 {
             return Contest {
+                rest: contest.rest,
                 set: placed(contest.set, place, true),
                 last: Some(self.later(contest.last, job)),
                 free: contest.free - 1,
@@ -122,6 +126,7 @@ impl<P: Policy> Slot<'_, P> {
                 let others = placed(contest.set, last.place, false);
                 let (second, _) = self.last_of(others);
                 Contest {
+                    rest: contest.rest,
                     set: placed(others, place, true),
                     last: Some(self.later(second, job)),
                     free: 0,
@@ -131,16 +136,41 @@ impl<P: Policy> Slot<'_, P> {
         }
     }
 
-    /// The set of the jobs that run, chosen by going through the jobs once.
-    pub(crate) fn contest(&self) -> u32
+    // A choice that begins with the jobs of the set, of which the last and the count are given, if there are CPUs for all of
+    // them, and else with none.
+    fn begin(&self, kept: u32, last: Option<Job<P::Key>>, count: u8) -> Contest<P::Key>
+        requires kept { Within kept self.now.jobs }
+        requires last { LastTo P.Policy.keyed P.Policy.precedes self.now kept 32 last }
+        requires count { count ≡ count_below 32 (has kept) }
+        ensures so_far { RunSoFar P.Policy.keyed P.Policy.precedes self.now 0 result }
+        ensures rest { Within result.rest self.now.jobs }
+    {
+        if count > self.cpus {
+            return Contest {
+                rest: self.jobs,
+                set: 0,
+                last: None,
+                free: self.cpus,
+            };
+        }
+        Contest {
+            rest: self.jobs & !kept,
+            set: kept,
+            last,
+            free: self.cpus - count,
+        }
+    }
+
+    /// The set of the jobs that run, chosen by going through the jobs once, but for those of `kept`, of which the last and the
+    /// count are given: the choice begins with them, if there are CPUs for all of them.
+    pub(crate) fn contest(&self, kept: u32, last: Option<Job<P::Key>>, count: u8) -> u32
+        requires kept { Within kept self.now.jobs }
+        requires last { LastTo P.Policy.keyed P.Policy.precedes self.now kept 32 last }
+        requires count { count ≡ count_below 32 (has kept) }
         ensures { Runs P.Policy.keyed P.Policy.precedes self.now result }
     {
-        let mut contest = Contest {
-            set: 0,
-            last: None,
-            free: self.cpus,
-        };
-        for i in members_of(self.jobs) {
+        let mut contest = self.begin(kept, last, count);
+        for i in members_of(contest.rest) {
             if let Some(job) = self.job(i) {
                 contest = self.admit(contest, job);
             }

@@ -23,17 +23,18 @@ pub fn active_set(tasks: &[Option<Task>; 32], left: &[u16; 32]) -> u32
 impl<P: Policy> Slot<'_, P> {
     /// The set of the jobs that run, a bit for each task: each active job with fewer active jobs before it than there are
     /// CPUs. The jobs of `ran` that are active keep the CPUs, if they are as many as there are CPUs and no other active job
-    /// stands before one of them, which one pass tells; and else the jobs are chosen anew. The answer is the same for any
-    /// `ran`: those that ran in the slot before are the best to hand in. Where there are CPUs for all active jobs nobody need be
-    /// asked, so that who knows it does not ask.
+    /// stands before one of them, which one pass tells; and else the choice begins with them, if there are CPUs for all of
+    /// them, and goes through the others. The answer is the same for any `ran`: those that ran in the slot before are the best
+    /// to hand in. Where there are CPUs for all active jobs nobody need be asked, so that who knows it does not ask.
     pub fn running(&self, ran: u32) -> u32
         ensures { Runs P.Policy.keyed P.Policy.precedes self.now result }
     {
         let kept = self.jobs & ran;
-        if self.keeps(kept) {
+        let (last, count) = self.last_of(kept);
+        if self.keeps(kept, &last, count) {
             return kept;
         }
-        self.contest()
+        self.contest(kept, last, count)
     }
 }
 

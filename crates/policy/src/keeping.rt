@@ -2,7 +2,7 @@ ghost use Rattle.std.specs.Prelude.{◌≡◌, true, not, ◌&&◌, nat_lt};
 ghost use Rattle.schedule.specs.Counting.{count_below};
 ghost use Rattle.policy.specs.Dispatch.{ahead_of, count_ahead};
 ghost use Rattle.policy.specs.Members.{has, Within};
-ghost use Rattle.policy.specs.Slots.{keys_of, Runs};
+ghost use Rattle.policy.specs.Slots.{keys_of, LastTo, Runs};
 
 use crate::choosing::{Job, stands_before};
 use crate::policy::Policy;
@@ -31,16 +31,18 @@ impl<P: Policy> Slot<'_, P> {
         ahead < self.cpus
     }
 
-    /// Whether the jobs of the set are known to run by one pass: they are as many as there are CPUs, and the last of them has
-    /// fewer active jobs before it than there are CPUs, which then are the others of the set.
-    pub(crate) fn keeps(&self, set: u32) -> bool
-        requires { Within set self.now.jobs }
+    /// Whether the jobs of the set, of which the last and the count are given, are known to run by one pass: they are as many
+    /// as there are CPUs, and the last of them has fewer active jobs before it than there are CPUs, which then are the others
+    /// of the set.
+    pub(crate) fn keeps(&self, set: u32, last: &Option<Job<P::Key>>, count: u8) -> bool
+        requires within { Within set self.now.jobs }
+        requires last { LastTo P.Policy.keyed P.Policy.precedes self.now set 32 last.now }
+        requires count { count ≡ count_below 32 (has set) }
         ensures { result ≡ true → Runs P.Policy.keyed P.Policy.precedes self.now set }
     {
-        let (last, count) = self.last_of(set);
         match last {
             Some(last) if count == self.cpus => {
-                self.few_ahead(&last, count - 1, self.jobs & !set)
+                self.few_ahead(last, count - 1, self.jobs & !set)
             }
             _ => false,
         }

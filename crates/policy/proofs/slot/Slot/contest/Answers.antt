@@ -1,8 +1,9 @@
--- Each job in turn is admitted, and at the end the set is that of the jobs that run.
+-- Each job of the rest in turn is admitted, and at the end the set is that of the jobs that run.
 use Rattle.std.proofs.Common.{◌≡◌, ◌+◌, ℕ, Some, None, sym, ap, ◌∙◌, subst, arith}
+use Rattle.policy.specs.Members.{has, Within}
 use Rattle.policy.specs.Slots.{RunSoFar}
-use Rattle.policy.proofs.Kept.{none_run, run_on, all_run, key_there}
-use Rattle.policy.proofs.Rising.{first, along_from, turn, next_past}
+use Rattle.policy.proofs.Kept.{run_on, all_run, key_there}
+use Rattle.policy.proofs.Rising.{first, Along, along_from, turn, next_past}
 use Rattle.policy.proofs.slot.Slot.contest.Goals as goal
 
 pub loop-i-init : goal.loop-i-init
@@ -10,9 +11,17 @@ loop-i-init g c =
     let p = g.P.Policy in
     let laws = g.met.P.Policy in
     let s = c.args.self.now in
-    let rest = c.into_iter-i-iterator.result in
-    let (along, n) = along_from s.jobs 0 rest (omega arith) (c.into_iter-i-iterator.ensures.into_iter_gives ∙ c.members_of-i-items.ensures) in
-    (tt, tt, along, none_run p.keyed p.precedes s (laws.total s.policy.now) (laws.transitive s.policy.now) (first rest) n)
+    let begun = c.begin-contest.result in
+    let members = c.into_iter-i-iterator.result in
+    let (along, n) = along_from begun.rest 0 members (omega arith) (c.into_iter-i-iterator.ensures.into_iter_gives ∙ c.members_of-i-items.ensures) in
+    (tt, tt, c.begin-contest.ensures.rest, along, run_on p.keyed p.precedes s (laws.total s.policy.now) (laws.transitive s.policy.now) 0 (first members) begun (omega arith) n.skipped c.begin-contest.ensures.so_far)
+
+-- a member of the rest is admitted
+pub admit-contest-requires-clause-rest : goal.admit-contest-requires-clause-rest
+admit-contest-requires-clause-rest g c =
+    let rest = c.loop-i.contest.rest in
+    let t = turn rest c.loop-i.i-iterator c.next.new.self c.in-Some.i c.loop-i.invariant.3 c.in-Some.ensures.steps in
+    ap (has rest) c.in-Some-job.ensures.0 ∙ t.member
 
 pub loop-i-preserved-in-Some-job : goal.loop-i-preserved-in-Some-job
 loop-i-preserved-in-Some-job g c =
@@ -21,12 +30,18 @@ loop-i-preserved-in-Some-job g c =
     let s = c.args.self.now in
     let i = c.in-Some.i in
     let more = c.next.new.self in
-    let t = turn s.jobs c.loop-i.i-iterator more i c.loop-i.invariant.2 c.in-Some.ensures.steps in
-    let R : ℕ → Type 0 = λ n. RunSoFar p.keyed p.precedes s (n + 1) c.admit-contest.result in (
+    let rest = c.loop-i.contest.rest in
+    let after = c.admit-contest.result in
+    let same : after.rest ≡ rest = c.admit-contest.ensures.rest in
+    let t = turn rest c.loop-i.i-iterator more i c.loop-i.invariant.3 c.in-Some.ensures.steps in
+    let W : ℕ → Type 0 = λ r. Within r s.jobs in
+    let A : ℕ → Type 0 = λ r. Along r more in
+    let R : ℕ → Type 0 = λ n. RunSoFar p.keyed p.precedes s (n + 1) after in (
       tt,
       tt,
-      t.along,
-      run_on p.keyed p.precedes s (laws.total s.policy.now) (laws.transitive s.policy.now) (i + 1) (first more) c.admit-contest.result (next_past s.jobs (i + 1) (first more) (omega (arith, t.within)) t.next) (omega (arith, t.next.within)) (λ k l m. t.next.skipped k l m) (subst R c.in-Some-job.ensures.0 c.admit-contest.ensures),
+      subst W (sym same) c.loop-i.invariant.2,
+      subst A (sym same) t.along,
+      run_on p.keyed p.precedes s (laws.total s.policy.now) (laws.transitive s.policy.now) (i + 1) (first more) after (next_past rest (i + 1) (first more) (omega (arith, t.within)) t.next) (λ k l m. ap (λ r. has r k) same ∙ t.next.skipped k l m) (subst R c.in-Some-job.ensures.0 c.admit-contest.ensures.so_far),
     )
 
 -- a member is a job
@@ -34,8 +49,9 @@ pub loop-i-preserved : goal.loop-i-preserved
 loop-i-preserved g c =
     let p = g.P.Policy in
     let s = c.args.self.now in
-    let t = turn s.jobs c.loop-i.i-iterator c.next.new.self c.in-Some.i c.loop-i.invariant.2 c.in-Some.ensures.steps in
-    let (k, e) = key_there p.keyed p.precedes s c.in-Some.i t.within t.member in
+    let i = c.in-Some.i in
+    let t = turn c.loop-i.contest.rest c.loop-i.i-iterator c.next.new.self i c.loop-i.invariant.3 c.in-Some.ensures.steps in
+    let (k, e) = key_there p.keyed p.precedes s i t.within (c.loop-i.invariant.2 i t.within t.member) in
     let none : None ≡ Some k = sym c.in_default.ensures ∙ e in
     absurd (cc)
 
@@ -46,4 +62,4 @@ returns g c =
     let s = c.args.self.now in
     let end : first c.loop-i.i-iterator ≡ 32 = ap first c.in-None.ensures.steps.0 in
     let R : ℕ → Type 0 = λ n. RunSoFar p.keyed p.precedes s n c.loop-i.contest in
-    all_run p.keyed p.precedes s (laws.total s.policy.now) (laws.transitive s.policy.now) c.loop-i.contest (subst R end c.loop-i.invariant.3)
+    all_run p.keyed p.precedes s (laws.total s.policy.now) (laws.transitive s.policy.now) c.loop-i.contest (subst R end c.loop-i.invariant.4)

@@ -1,4 +1,5 @@
--- The jobs up to the next are admitted.
+-- The jobs of the rest up to the next are admitted.
+use Rattle.policy.specs.Members.{Within}
 use Rattle.policy.specs.Slots.{RunSoFar}
 use Rattle.policy.proofs.Rising.{first, Along}
 use Rattle.policy.proofs.slot.Slot.contest.Given as goal
@@ -8,5 +9,6 @@ invariant-loop-i g l =
     let p = g.P.Policy in
     (goal.iterator-loop-i g).can_next l.i-iterator
     × (goal.iterator-loop-i g).is_finite l.i-iterator
-    × Along l.self.jobs l.i-iterator
+    × Within l.contest.rest l.self.jobs
+    × Along l.contest.rest l.i-iterator
     × RunSoFar p.keyed p.precedes l.self (first l.i-iterator) l.contest

@@ -12,8 +12,8 @@ pub overflow_sub-count : goal.overflow_sub-count
 overflow_sub-count g c =
     let p = g.P.Policy in
     let s = c.args.self.now in
-    let last = last_is p.keyed p.precedes s c.args.set 32 c.last_of-last.result.0 c.in-Some.last c.in-Some.is c.last_of-last.ensures.last in
-    (one_less p.keyed p.precedes s (g.met.P.Policy.total s.policy.now) (g.met.P.Policy.transitive s.policy.now) c.args.set (omega (arith, c.ranges.set.fits)) c.in-Some.last c.requires last c.last_of-last.result.1 c.last_of-last.ensures.count).0
+    let last = last_is p.keyed p.precedes s c.args.set 32 c.args.last.now c.in-Some.last c.in-Some.is c.requires.last in
+    (one_less p.keyed p.precedes s (g.met.P.Policy.total s.policy.now) (g.met.P.Policy.transitive s.policy.now) c.args.set (omega (arith, c.ranges.set.fits)) c.in-Some.last c.requires.within last c.args.count c.requires.count).0
 
 pub few_ahead-requires-clause-rest : goal.few_ahead-requires-clause-rest
 few_ahead-requires-clause-rest g c i h on =
@@ -24,14 +24,14 @@ pub few_ahead-requires-clause-known : goal.few_ahead-requires-clause-known
 few_ahead-requires-clause-known g c =
     let p = g.P.Policy in
     let s = c.args.self.now in
-    let last = last_is p.keyed p.precedes s c.args.set 32 c.last_of-last.result.0 c.in-Some.last c.in-Some.is c.last_of-last.ensures.last in
-    (one_less p.keyed p.precedes s (g.met.P.Policy.total s.policy.now) (g.met.P.Policy.transitive s.policy.now) c.args.set (omega (arith, c.ranges.set.fits)) c.in-Some.last c.requires last c.last_of-last.result.1 c.last_of-last.ensures.count).1
+    let last = last_is p.keyed p.precedes s c.args.set 32 c.args.last.now c.in-Some.last c.in-Some.is c.requires.last in
+    (one_less p.keyed p.precedes s (g.met.P.Policy.total s.policy.now) (g.met.P.Policy.transitive s.policy.now) c.args.set (omega (arith, c.ranges.set.fits)) c.in-Some.last c.requires.within last c.args.count c.requires.count).1
 
 pub returns-in-Some : goal.returns-in-Some
 returns-in-Some g c few =
     let p = g.P.Policy in
     let s = c.args.self.now in
-    let last = last_is p.keyed p.precedes s c.args.set 32 c.last_of-last.result.0 c.in-Some.last c.in-Some.is c.last_of-last.ensures.last in
-    kept_runs p.keyed p.precedes s (g.met.P.Policy.total s.policy.now) (g.met.P.Policy.transitive s.policy.now) c.args.set (omega (arith, c.ranges.set.fits)) c.in-Some.last c.requires last
-    (sym c.last_of-last.ensures.count ∙ c.if-count-self.true)
+    let last = last_is p.keyed p.precedes s c.args.set 32 c.args.last.now c.in-Some.last c.in-Some.is c.requires.last in
+    kept_runs p.keyed p.precedes s (g.met.P.Policy.total s.policy.now) (g.met.P.Policy.transitive s.policy.now) c.args.set (omega (arith, c.ranges.set.fits)) c.in-Some.last c.requires.within last
+    (sym c.requires.count ∙ c.if-count-self.true)
     (ltb-true (count_ahead (p.precedes s.policy.now) (keys_of p.keyed s) c.in-Some.last.key c.in-Some.last.place) s.cpus (sym c.few_ahead.ensures ∙ few))
