@@ -1,4 +1,4 @@
-ghost use Rattle.std.specs.Prelude.{◌≡◌, ◌≢◌, ℕ, ◌+◌, ◌-◌, ◌<◌, ◌≤◌, false, slice_index};
+ghost use Rattle.std.specs.Prelude.{◌≡◌, ◌≢◌, ℕ, ◌+◌, ◌-◌, ◌<◌, ◌≤◌, false, Decides, count_ones, slice_index};
 ghost use Rattle.task.specs.Tables.{entry_at};
 ghost use Rattle.policy.specs.Dispatch.{is_active};
 ghost use Rattle.policy.specs.Members.{has};
@@ -49,6 +49,13 @@ impl Calendar {
             due: 0,
             missed: 0,
         }
+    }
+
+    /// Whether there are CPUs for all active jobs.
+    pub(crate) fn fits(&self, cpus: u8) -> bool
+        ensures { Decides result (count_ones self.now.active ≤ cpus) }
+    {
+        self.active.count_ones() <= u32::from(cpus)
     }
 
     /// Rules 1 and 2 at `t` for a place with an event there.

@@ -102,12 +102,14 @@ impl Trial {
             return Outcome::Ran;
         }
         let mut outcome = Outcome::Ran;
+        let calendar = Calendar::new(tasks, self.instant, &self.left);
+        let few = calendar.fits(self.cpus);
         let mut watch = Watch {
             tasks,
-            calendar: Calendar::new(tasks, self.instant, &self.left),
+            calendar,
             since: self.instant,
             calm: self.instant + 1,
-            few: false,
+            few,
         };
         let most = (LAST_INSTANT - self.instant).min(u64::from(n));
         'slots: for _ in 0..most {

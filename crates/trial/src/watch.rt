@@ -44,7 +44,7 @@ impl Watch<'_> {
     pub(crate) fn fits(&self, cpus: u8) -> bool
         ensures { Decides result (count_ones self.now.calendar.active ≤ cpus) }
     {
-        self.calendar.active.count_ones() <= u32::from(cpus)
+        self.calendar.fits(cpus)
     }
 
     /// Whether task `i`'s job missed its deadline at the latest event.

@@ -20,7 +20,7 @@ returns-then-self-ge-LAST_INSTANT g c = (0, here, omega arith, inr (omega arith)
 
 pub invariant_of-watch : goal.invariant_of-watch
 invariant_of-watch g c =
-    let k = c.new.ensures in
+    let k = c.new-calendar.ensures in
     record {
       sized = search rules;
       onward = omega arith;
@@ -31,7 +31,7 @@ invariant_of-watch g c =
     }
 
 pub slots-init : goal.slots-init
-slots-init g c = (here, record { tasks_are = refl; begun = omega arith; not_over = omega arith; active_is = c.new.ensures.active; few_are = λ h. absurd (cc) }, refl)
+slots-init g c = (here, record { tasks_are = refl; begun = omega arith; not_over = omega arith; active_is = c.new-calendar.ensures.active; few_are = c.fits-few.ensures.0 }, refl)
 
 pub pass-due-requires-clause-watched : goal.pass-due-requires-clause-watched
 pass-due-requires-clause-watched g c =
