@@ -1,13 +1,17 @@
 -- The line of a bench that was prepared and given its runs is the line of its sheet.
-use Rattle.std.proofs.Common.{◌≡◌, ℕ, Bool, false, List, None, Option, sym, ap, ◌∙◌, subst}
+use Rattle.std.proofs.Common.{◌≡◌, ℕ, ◌≤◌, Bool, false, List, length, None, Ok, Option, sym, ap, ◌∙◌, subst}
 use Rattle.task.specs.declared.entry.Entry.{Entry}
 use Rattle.task.specs.Tables.{entry_at, entries}
 use Rattle.policy.specs.Plans.{plan_of}
 use Rattle.bench.specs.declared.mode.Mode.TheVariants.{Open, Running}
+use Rattle.bench.specs.declared.verdict.Verdict.{Verdict}
 use Rattle.bench.specs.Judged.{GivenRuns, SinceStart, OnlyVerdict}
+use Rattle.bench.specs.Lines.{verdict_line, room_refusal}
 use Rattle.bench.specs.Modes.{verdict_of}
 use Rattle.bench.specs.Steps.{View, with_mode, plan_for, start_refusal}
-use Rattle.report.specs.Prints.{VerdictOfSheet}
+use Rattle.sheet.specs.Buffers.{BeginsWith}
+use Rattle.report.specs.declared.line.Line.TheVariants.{OfVerdict}
+use Rattle.report.specs.Prints.{VerdictOfSheet, Prints}
 use Rattle.report.specs.Prepares.{Prepared}
 use Rattle.bench.proofs.Placing.{placed_entries}
 
@@ -42,3 +46,8 @@ module _ {P K : Type 0} (keyed : P → Entry → ℕ → K) (le : P → K → K 
           starts = subst B (sym (placed_entries u.tasks)) pr.starts;
           judged = subst A (sym (placed_entries u.tasks)) (subst Q whose j);
         }
+
+-- a verdict's line is what is to be printed
+pub verdict_printed : {K : Type 0} (keyed : Entry → ℕ → K) (le : K → K → Bool) (bytes before after : List ℕ) (n : ℕ) (v : Verdict)
+    → room_refusal (length before) ≡ None → VerdictOfSheet keyed le bytes v → BeginsWith (verdict_line v) before after n → n ≤ 48 → Prints keyed le bytes before after (Ok (OfVerdict n))
+verdict_printed keyed le bytes before after n v room sheet text short = (room, (v, sheet, text, short))
