@@ -51,6 +51,10 @@ two_bytes n m bs b e h = let f : n / 256 % 256 ≡ n / 256 = omega arith in b �
 pub four_bytes : (n m : ℕ) (bs : List ℕ) → bs ≡ to_be_bytes w32 n → n ≡ m → n < 4294967296 → bs ≡ be32 m
 four_bytes n m bs b e h = let f : n / 16777216 % 256 ≡ n / 16777216 = omega arith in b ∙ (rw f (ap be32 e))
 
+-- texts that were written one after another, as one
+pub regroup : (m n r o c d t : List ℕ) → (((((m ++ n) ++ r) ++ o) ++ c) ++ d) ++ t ≡ m ++ (n ++ (r ++ (o ++ (c ++ (d ++ (t ++ []))))))
+regroup m n r o c d t = simp (append_assoc, append-nil)
+
 -- the parts of a record TK, one after another
 pub parts : (e : Entry) (number rank : ℕ) (name offset runtime deadline period : List ℕ)
     → number ≡ e.number → name ≡ e.name → rank ≡ e.rank → offset ≡ be32 e.offset → runtime ≡ be16 e.runtime → deadline ≡ be16 e.deadline → period ≡ be16 e.period
