@@ -1,5 +1,4 @@
 pub mod Ages
-pub mod Counted
 pub mod Periods
 pub mod Slotwise
 pub mod Watching
