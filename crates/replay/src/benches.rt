@@ -1,4 +1,4 @@
-use crate::answer::Answer;
+use crate::answer::{Answer, BUFFER_LENGTH};
 use crate::denied::Denied;
 use crate::perform::perform;
 use crate::script::{Base, Call, Ratio, Setup};
@@ -6,7 +6,6 @@ use bench::bench::Bench;
 use policy::deadline::Deadline;
 use policy::heavy::{HeavyFirst, Threshold};
 use policy::rank::Rank;
-use std::alloc::Global;
 use task::refusal::Refusal;
 
 /// A bench of one of the policies.
@@ -57,15 +56,19 @@ impl AnyBench {
         Ok(bench)
     }
 
-    /// Makes the call, and gives what the bench answers.
-    pub fn perform(&mut self, call: &Call, heap: Global) -> Result<Answer, Denied> {
+    /// Makes the call, and gives what the bench answers. What it writes, it writes into the buffer.
+    pub fn perform<'a>(
+        &mut self,
+        call: &Call,
+        buffer: &'a mut [u8; BUFFER_LENGTH],
+    ) -> Result<Answer<'a>, Denied> {
         match self {
-            AnyBench::ByDeadline(bench) => perform(bench, call, heap),
-            AnyBench::ByRank(bench) => perform(bench, call, heap),
-            AnyBench::HeavyByDeadline(bench) => perform(bench, call, heap),
-            AnyBench::HeavyByRank(bench) => perform(bench, call, heap),
-            AnyBench::TwiceByDeadline(bench) => perform(bench, call, heap),
-            AnyBench::TwiceByRank(bench) => perform(bench, call, heap),
+            AnyBench::ByDeadline(bench) => perform(bench, call, buffer),
+            AnyBench::ByRank(bench) => perform(bench, call, buffer),
+            AnyBench::HeavyByDeadline(bench) => perform(bench, call, buffer),
+            AnyBench::HeavyByRank(bench) => perform(bench, call, buffer),
+            AnyBench::TwiceByDeadline(bench) => perform(bench, call, buffer),
+            AnyBench::TwiceByRank(bench) => perform(bench, call, buffer),
         }
     }
 }

@@ -17,6 +17,9 @@
 
 #![tactic(auto)]
 
+ghost use Rattle.std.specs.Io.Buffered.{writer_buffer};
+ghost use Rattle.replay.specs.Printing.{Flushed};
+
 mod answer;
 mod benches;
 mod denied;
@@ -27,24 +30,31 @@ mod words;
 
 use denied::apart;
 use session::Session;
-use std::io::{BufRead, BufReader, Write};
+use std::io::{BufRead, BufReader, BufWriter, Write};
 use std::process::ExitCode;
 use streams::ending::end_program;
 use streams::failure::Failure;
 
-/// Does what a line asks for, and prints the answer, if there is one. Lack of memory ends the script.
-fn replay_line<W: Write>(line: &[u8], session: &mut Session, out: &mut W) -> Result<(), Failure> {
+/// Does what a line asks for, and prints the answer, if there is one, at once. Lack of memory ends the script.
+fn replay_line<W: Write + Drop>(
+    line: &[u8],
+    session: &mut Session,
+    out: &mut BufWriter<W>,
+) -> Result<(), Failure>
+    ensures flushed { Flushed (writer_buffer out.old) (writer_buffer out.new) result }
+{
     let printed = match apart(session.answer(line))? {
         Ok(None) => Ok(()),
         Ok(Some(answer)) => writeln!(out, "{answer}"),
         Err(denied) => writeln!(out, "{denied}"),
     };
-    printed.map_err(Failure::Output)
+    printed.map_err(Failure::Output)?;
+    out.flush().map_err(Failure::Output)
 }
 
 /// Goes through the lines of a script. A carriage return at the end of a line does not count.
 fn replay(rt: &HostRuntime) -> Result<(), Failure> {
-    let mut out = rt.stdout();
+    let mut out = BufWriter::new(rt.alloc(), rt.stdout()).map_err(|_| Failure::Memory)?;
     let mut session = Session::new(rt.alloc());
     let script = BufReader::new(rt.alloc(), rt.stdin()).map_err(Failure::on_reading)?;
     for line in script.split(rt.alloc(), b'\n') {

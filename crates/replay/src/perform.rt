@@ -1,20 +1,16 @@
-use crate::answer::Answer;
+use crate::answer::{Answer, BUFFER_LENGTH};
 use crate::denied::Denied;
 use crate::script::Call;
 use bench::bench::Bench;
 use policy::policy::Policy;
-use std::alloc::Global;
 use task::refusal::Refusal;
 
-/// How many bytes a buffer has at most: more than any sheet or line, so that a longer one is used alike.
-const BUFFER_LENGTH: usize = 1024;
-
-/// Makes the call, and gives what the bench answers.
-pub fn perform<P: Policy>(
+/// Makes the call, and gives what the bench answers. What it writes, it writes into the buffer.
+pub fn perform<'a, P: Policy>(
     bench: &mut Bench<P>,
     call: &Call,
-    heap: Global,
-) -> Result<Answer, Denied> {
+    buffer: &'a mut [u8; BUFFER_LENGTH],
+) -> Result<Answer<'a>, Denied> {
     let answer = match call {
         Call::Enter(entry) => {
             bench.enter(*entry)?;
@@ -29,7 +25,7 @@ pub fn perform<P: Policy>(
             Answer::Loaded { cpus }
         }
         Call::Save { cpus, length } => {
-            Answer::Saved(written(*length, heap, |buffer| bench.save(*cpus, buffer))?)
+            Answer::Saved(written(buffer, *length, |room| bench.save(*cpus, room))?)
         }
         Call::Start { cpus } => {
             bench.start(*cpus)?;
@@ -46,22 +42,21 @@ pub fn perform<P: Policy>(
             Answer::Ran { word, count }
         }
         Call::Line { length } => {
-            Answer::Written(written(*length, heap, |buffer| bench.line(buffer))?)
+            Answer::Written(written(buffer, *length, |room| bench.line(room))?)
         }
     };
     Ok(answer)
 }
 
-/// What the writer writes into a buffer of this length.
-fn written<F: FnOnce(&mut [u8]) -> Result<usize, Refusal>>(
+/// What the writer writes into so many bytes of the buffer.
+fn written<'a, F: FnOnce(&mut [u8]) -> Result<usize, Refusal>>(
+    buffer: &'a mut [u8; BUFFER_LENGTH],
     length: usize,
-    heap: Global,
     write: F,
-) -> Result<Vec<u8>, Denied>
+) -> Result<&'a [u8], Refusal>
     requires { F.IsAlwaysCallable write }
 {
-    let mut buffer = vec![in heap; 0u8; length.min(BUFFER_LENGTH)]?;
-    let end = write(buffer.as_mut_slice())?;
-    buffer.truncate(end);
-    Ok(buffer)
+    let room = &mut buffer[..length.min(BUFFER_LENGTH)];
+    let end = write(room)?;
+    Ok(&room[..end.min(room.len())])
 }

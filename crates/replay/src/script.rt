@@ -1,5 +1,5 @@
 use crate::denied::Denied;
-use crate::words::{clamped, exact};
+use crate::words::{clamped, exact, hex_digits};
 use hex::FromHex;
 use std::alloc::Global;
 use std::str::FromStr;
@@ -135,7 +135,7 @@ fn read_entry(words: &[&str]) -> Result<Entry, Denied> {
 fn read_sheet(word: &str, heap: Global) -> Result<Vec<u8>, Denied> {
     match word {
         "-" => Ok(Vec::new(heap)),
-        _ => Ok(hex::decode(heap, word)?),
+        _ => Ok(hex::decode(heap, hex_digits(word)?)?),
     }
 }
 

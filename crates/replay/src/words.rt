@@ -23,6 +23,15 @@ fn digits(word: &str) -> Result<&str, Denied> {
     }
 }
 
+/// The word, where it has only hex digits, so that no memory is taken for any other.
+pub fn hex_digits(word: &str) -> Result<&str, Denied> {
+    if word.bytes().all(|b| b.is_ascii_hexdigit()) {
+        Ok(word)
+    } else {
+        Err(Denied::Unreadable)
+    }
+}
+
 /// The number that a word spells. One above the largest of its type counts as the largest, which is taken or refused alike.
 pub fn clamped<T: FromStr + Drop>(word: &str, largest: T) -> Result<T, Denied>
 where

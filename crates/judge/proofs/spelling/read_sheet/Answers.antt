@@ -1,5 +1,5 @@
 use Rattle.std.proofs.Common.{rules, sym, ◌∙◌, ⊎_elim}
-use Rattle.judge.proofs.Spelled.{spelled, by_digits}
+use Rattle.judge.proofs.Spelled.{spelled, by_digits, no_digits}
 use Rattle.judge.proofs.spelling.read_sheet.Goals as goal
 
 pub returns-in-Ok : goal.returns-in-Ok
@@ -15,3 +15,9 @@ returns-in-OutOfMemory c = search rules
 
 pub returns-then-is_hyphen : goal.returns-then-is_hyphen
 returns-then-is_hyphen c = search rules
+
+pub returns-then-not-is_hex : goal.returns-then-not-is_hex
+returns-then-not-is_hex c =
+    let word = c.without_return-word.result.now in
+    let digits = by_digits c.args.line.now word c.without_return-word.ensures (sym c.if-is_hyphen.ensures) in
+    sym (digits ∙ no_digits word (sym c.if-not-is_hex.ensures))
