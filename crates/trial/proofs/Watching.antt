@@ -65,4 +65,5 @@ watched_still tasks a b w s k =
       not_over = omega (arith, s.not_over, k.instant_kept);
       active_is = λ i h. s.active_is i h ∙ ap (λ xs. is_active (entry_at tasks) xs i) (sym k.left_kept);
       few_are = λ h. omega (arith, s.few_are h, k.cpus_kept);
+      are_few = λ h. s.are_few (omega (arith, h, k.cpus_kept));
     }

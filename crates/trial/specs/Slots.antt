@@ -19,14 +19,15 @@ worked ran left i = cond (has ran i) (left_of left i - 1) (left_of left i)
 abbrev pub is_finished : (ran : ℕ) → List ℕ → ℕ → Bool
 is_finished ran left i = has ran i && (left_of left i == 0)
 
--- a watch is one of these tasks, and of the trial's instant and its active jobs; and where it says that there are CPUs for all
--- of them, there are
+-- a watch is one of these tasks, and of the trial's instant and its active jobs; and it says that there are CPUs for all of
+-- them just where there are
 pub record Watched (tasks : List (Option Task)) (a : Trial) (w : Watch) : Type 0 where
   pub tasks_are : w.tasks.now ≡ tasks
   pub begun : w.since ≤ a.instant
   pub not_over : a.instant < w.calm
   pub active_is : (i : ℕ) → i < 32 → has w.calendar.active i ≡ is_active (entry_at tasks) a.left i
   pub few_are : w.few ≡ true → count_ones w.calendar.active ≤ a.cpus
+  pub are_few : count_ones w.calendar.active ≤ a.cpus → w.few ≡ true
 
 -- what a watch knows of its instants is as it was
 pub record SameInstants (v w : Watch) : Type 0 where

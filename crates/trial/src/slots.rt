@@ -49,7 +49,7 @@ impl Trial {
         ensures ticked { Ticked (plan_of (P.Policy.keyed policy.now) (P.Policy.precedes policy.now) (entry_at watch.old.tasks.now)) self.old self.new }
         ensures watch { SameInstants watch.old watch.new }
         ensures active { (i : ℕ) → i < 32 → has watch.new.calendar.active i ≡ is_active (entry_at watch.old.tasks.now) self.new.left i }
-        ensures few { watch.new.few ≡ true → count_ones watch.new.calendar.active ≤ self.old.cpus }
+        ensures few { Decides watch.new.few (count_ones watch.new.calendar.active ≤ self.old.cpus) }
     {
         self.ran = self.choose(policy, watch);
         if work(&mut self.left, self.ran) {

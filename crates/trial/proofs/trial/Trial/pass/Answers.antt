@@ -33,7 +33,8 @@ returns-then-self-watch g c =
             begun = omega (arith, s.begun, t.later, kept.since_kept);
             not_over = c.if-self-watch.true;
             active_is = c.tick.ensures.active;
-            few_are = λ h. omega (arith, c.tick.ensures.few h, t.cpus_kept);
+            few_are = λ h. omega (arith, c.tick.ensures.few.0 h, t.cpus_kept);
+            are_few = λ h. c.tick.ensures.few.1 (omega (arith, h, t.cpus_kept));
           };
     }
 
@@ -70,5 +71,6 @@ returns g c =
             not_over = omega (arith, c.arrive-due.ensures.since, now, t.later, on.onward);
             active_is = λ i h. subst (A i) kept.tasks_kept (c.arrive-due.ensures.active i h);
             few_are = c.fits-watch.ensures.0;
+            are_few = c.fits-watch.ensures.1;
           };
     }

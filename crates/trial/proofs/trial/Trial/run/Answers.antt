@@ -31,7 +31,7 @@ invariant_of-watch g c =
     }
 
 pub slots-init : goal.slots-init
-slots-init g c = (here, record { tasks_are = refl; begun = omega arith; not_over = omega arith; active_is = c.new-calendar.ensures.active; few_are = c.fits-few.ensures.0 }, refl)
+slots-init g c = (here, record { tasks_are = refl; begun = omega arith; not_over = omega arith; active_is = c.new-calendar.ensures.active; few_are = c.fits-few.ensures.0; are_few = c.fits-few.ensures.1 }, refl)
 
 pub pass-due-requires-clause-watched : goal.pass-due-requires-clause-watched
 pass-due-requires-clause-watched g c =

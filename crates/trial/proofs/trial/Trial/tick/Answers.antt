@@ -1,3 +1,4 @@
+use Rattle.std.specs.Prelude.{Decides}
 use Rattle.std.proofs.Common.{◌≡◌, ℕ, ◌<◌, ◌≤◌, true, not, ◌&&◌, sym, refl, ap, ap₂, ◌∙◌, subst, arith}
 use lib.Count.{ones}
 use Rattle.task.specs.Tables.{entry_at}
@@ -59,10 +60,10 @@ returns g c =
       few =
           elim c.if-work.branch [
             | then-work y ↦
-                let F : Watch → Type 0 = λ x. x.few ≡ true → ones x.calendar.active ≤ a.cpus in
-                subst F (sym y.watch-is) y.fits-watch.ensures.0
+                let F : Watch → Type 0 = λ x. Decides x.few (ones x.calendar.active ≤ a.cpus) in
+                subst F (sym y.watch-is) y.fits-watch.ensures
             | else-work y ↦
-                let F : Watch → Type 0 = λ x. x.few ≡ true → ones x.calendar.active ≤ a.cpus in
-                subst F (sym y.watch-is) s.few_are
+                let F : Watch → Type 0 = λ x. Decides x.few (ones x.calendar.active ≤ a.cpus) in
+                subst F (sym y.watch-is) (s.few_are, s.are_few)
           ];
     }
