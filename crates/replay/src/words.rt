@@ -24,7 +24,7 @@ fn digits(word: &str) -> Result<&str, Denied> {
 }
 
 /// The word, where it has only hex digits, so that no memory is taken for any other.
-pub fn hex_digits(word: &str) -> Result<&str, Denied> {
+pub(crate) fn hex_digits(word: &str) -> Result<&str, Denied> {
     if word.bytes().all(|b| b.is_ascii_hexdigit()) {
         Ok(word)
     } else {
