@@ -5,6 +5,7 @@ use lib.Bits.{bit_and}
 use Rattle.std.specs.Int.{bit_not}
 use Rattle.schedule.specs.Counting.{count_below}
 use Rattle.schedule.proofs.Sums.{count_mono, count_lt, count_one_more}
+use Rattle.schedule.proofs.Counts.{count_zero}
 use Rattle.task.specs.declared.entry.Entry.{Entry}
 use Rattle.task.specs.Tables.{entry_at}
 use Rattle.policy.specs.declared.slot.Slot.{Slot}
@@ -13,11 +14,11 @@ use Rattle.policy.specs.declared.choosing.Job.{Job}
 use Rattle.policy.specs.Dispatch.{key_at, since, ahead_of, count_ahead}
 use Rattle.policy.specs.Members.{has, NextIn, Within}
 use Rattle.policy.specs.Order.{stands_before}
-use Rattle.policy.specs.Slots.{keys_of, later_of, LastOf, LastTo, Met, RunSoFar, Runs}
+use Rattle.policy.specs.Slots.{keys_of, later_of, LastOf, LastTo, Met, RunOfMet, RunSoFar, Runs}
 use Rattle.policy.proofs.Ranks.{before_itself, before_total, before_through}
 use Rattle.policy.proofs.Rising.{first, Turn, next_past}
 use Rattle.policy.proofs.Running.{runs_at, runs_of, set_by_ages}
-use Rattle.policy.proofs.Words.{without_has, word_is}
+use Rattle.policy.proofs.Words.{none_has, without_has, word_is}
 
 pub same_some : {A : Type 0} (o : Option A) (a b : A) → o ≡ Some a → o ≡ Some b → a ≡ b
 same_some o a b e f = let g : Some a ≡ Some b = sym e ∙ f in cc
@@ -255,7 +256,7 @@ module _ {P K : Type 0} (keyed : P → Entry → ℕ → K) (le : P → K → K 
     -- 4. the jobs one after another: at first those that are kept run, and the others are still to come
     module _ (kept rest : ℕ) (rest_is : (i : ℕ) → i < 32 → has rest i ≡ (has s.jobs i && not (has kept i))) (inside : Within kept s.jobs) where
       pub kept_first : (o : Option (Job K)) → LastTo keyed le s kept 32 o → (free : ℕ) → count_below 32 (has kept) + free ≡ s.cpus → kept < 4294967296
-          → RunSoFar keyed le s 0 (record { rest = rest; set = kept; last = o; free = free })
+          → RunOfMet keyed le s 0 (record { rest = rest; set = kept; last = o; free = free })
       kept_first o last free places word =
           record {
             inside = λ i h on. (inside i h on, inr (rest_is i h ∙ and_right (has s.jobs i) (not (has kept i)) (ap not on)));
@@ -282,8 +283,8 @@ module _ {P K : Type 0} (keyed : P → Entry → ℕ → K) (le : P → K → K 
     still_met c n m j up met = ⊎_elim (λ (l : j < n). inl (omega arith)) (λ (off : has c.rest j ≡ false). inr off) met
 
     -- numbers that are not of the rest change nothing
-    pub run_on : (n m : ℕ) (c : Contest K) → n ≤ m → ((i : ℕ) → n ≤ i → i < m → has c.rest i ≡ false) → RunSoFar keyed le s n c → RunSoFar keyed le s m c
-    run_on n m c up none r =
+    pub run_on_met : (n m : ℕ) (c : Contest K) → n ≤ m → ((i : ℕ) → n ≤ i → i < m → has c.rest i ≡ false) → RunOfMet keyed le s n c → RunOfMet keyed le s m c
+    run_on_met n m c up none r =
         record {
           inside = λ i h on. let was = r.inside i h on in (was.0, still_met c n m i up was.1);
           ahead = λ i j k l h low met on off e f. r.ahead i j k l h low (was_met j met) on off e f;
@@ -300,18 +301,38 @@ module _ {P K : Type 0} (keyed : P → Entry → ℕ → K) (le : P → K → K 
             (λ (off : has c.rest j ≡ false). inr off)
             met
 
+    -- what is said of the jobs gone through is said of those below n, where all that run are below n
+    pub all_below : (n : ℕ) (c : Contest K) → n ≤ 32 → ((i : ℕ) → i < 32 → has c.set i ≡ true → i < n) → RunOfMet keyed le s n c → RunSoFar keyed le s n c
+    all_below n c top below r =
+        record {
+          inside = λ i h on. ((r.inside i h on).0, below i h on);
+          ahead = λ i j k l h m on off e f. r.ahead i j k l h (omega (arith, top, m)) (inl m) on off e f;
+          places = r.places;
+          free = λ some i m on. r.free some i (omega (arith, top, m)) (inl m) on;
+          last = r.last;
+          word = r.word;
+        }
+
+    -- what is said of those below n is then said of those below m, where as much is said of the jobs gone through
+    pub still_below : (n m : ℕ) (c : Contest K) → n ≤ m → m ≤ 32 → RunSoFar keyed le s n c → RunOfMet keyed le s m c → RunSoFar keyed le s m c
+    still_below n m c up top was r = all_below m c top (λ i h on. omega (arith, up, (was.inside i h on).1)) r
+
+    -- at the end it is so of all, and those of the set are the ones that run
     pub all_run : (c : Contest K) → RunSoFar keyed le s 32 c → Runs keyed le s c.set
     all_run c r =
-        front_runs c.set (λ i h on. (r.inside i h on).0) (λ i j k l h m on off e f. r.ahead i j k l h m (inl m) on off e f) (omega (arith, r.places))
+        front_runs c.set (λ i h on. (r.inside i h on).0) (λ i j k l h m on off e f. r.ahead i j k l h m on off e f) (omega (arith, r.places))
         (λ j h on off.
         ⊎_elim
-        (λ (some : 0 < c.free). absurd (both_ways (has c.set j) off (r.free some j h (inl h) on)))
+        (λ (some : 0 < c.free). absurd (both_ways (has c.set j) off (r.free some j h on)))
         (λ (none : c.free ≤ 0). omega (arith, r.places))
         (cases_lt 0 c.free))
         (omega (arith, r.word))
 
+    pub all_run_met : (c : Contest K) → RunOfMet keyed le s 32 c → Runs keyed le s c.set
+    all_run_met c r = all_run c (all_below 32 c (omega arith) (λ i h on. h) r)
+
     -- one job more, at n ..
-    module _ (c : Contest K) (job : Job K) (low : job.place < 32) (new : has c.rest job.place ≡ true) (key : keys_of keyed s job.place ≡ Some job.key) (r : RunSoFar keyed le s job.place c) where
+    module _ (c : Contest K) (job : Job K) (low : job.place < 32) (new : has c.rest job.place ≡ true) (key : keys_of keyed s job.place ≡ Some job.key) (r : RunOfMet keyed le s job.place c) where
       abbrev n : ℕ
       n = job.place
 
@@ -340,8 +361,8 @@ module _ {P K : Type 0} (keyed : P → Entry → ℕ → K) (le : P → K → K 
         was_in : (i : ℕ) → i < 32 → i ≢ n → has set i ≡ true → has c.set i ≡ true
         was_in i h ne on = sym (with_same i h ne) ∙ on
 
-        pub one_placed : set < 4294967296 → (free : ℕ) → c.free ≡ free + 1 → RunSoFar keyed le s (n + 1) (record { rest = c.rest; set = set; last = Some (later_of (le s.policy.now) c.last job); free = free })
-        one_placed word free f =
+        pub one_placed_met : set < 4294967296 → (free : ℕ) → c.free ≡ free + 1 → RunOfMet keyed le s (n + 1) (record { rest = c.rest; set = set; last = Some (later_of (le s.policy.now) c.last job); free = free })
+        one_placed_met word free f =
             record {
               inside = λ i h on.
                   ⊎_elim
@@ -365,8 +386,8 @@ module _ {P K : Type 0} (keyed : P → Entry → ℕ → K) (le : P → K → K 
       -- .. where no CPU is free, and a job runs last
       module _ (none_free : c.free ≡ 0) (a : Job K) (last : LastOf keyed le s c.set 32 a) where
         -- that stays before it
-        pub one_waits : before job.key n a.key a.place ≡ false → LastTo keyed le s c.set 32 c.last → RunSoFar keyed le s (n + 1) c
-        one_waits behind lasts =
+        pub one_waits_met : before job.key n a.key a.place ≡ false → LastTo keyed le s c.set 32 c.last → RunOfMet keyed le s (n + 1) c
+        one_waits_met behind lasts =
             let apart : n ≢ a.place = λ q. both_ways (has c.set n) out (ap (has c.set) q ∙ last.member) in
             let past : before a.key a.place job.key n ≡ true = other_way job.key a.key n a.place apart behind in
             record {
@@ -407,8 +428,8 @@ module _ {P K : Type 0} (keyed : P → Entry → ℕ → K) (le : P → K → K 
               let ne : i ≢ a.place = λ q. both_ways (has others i) (ap (has others) q ∙ gone) on in
               (ne, sym (left_in i h ne) ∙ on)
 
-          pub others_inside : Within others s.jobs
-          others_inside i h on = (r.inside i h (other i h on).1).0
+          pub others_inside_met : Within others s.jobs
+          others_inside_met i h on = (r.inside i h (other i h on).1).0
 
           module _ (set : ℕ) (is : (i : ℕ) → i < 32 → has set i ≡ cond (eqb i n) true (has others i)) where
             set_same : (i : ℕ) → i < 32 → i ≢ n → has set i ≡ has others i
@@ -433,8 +454,8 @@ module _ {P K : Type 0} (keyed : P → Entry → ℕ → K) (le : P → K → K 
                 (λ (ne : i ≢ n). let was = other i h (sym (set_same i h ne) ∙ on) in last.others i k h was.1 was.0 e)
                 (cases_eq i n)
 
-            pub one_displaces : set < 4294967296 → (o : Option (Job K)) → LastTo keyed le s others 32 o → RunSoFar keyed le s (n + 1) (record { rest = c.rest; set = set; last = Some (later_of (le s.policy.now) o job); free = 0 })
-            one_displaces word o lasts =
+            pub one_displaces_met : set < 4294967296 → (o : Option (Job K)) → LastTo keyed le s others 32 o → RunOfMet keyed le s (n + 1) (record { rest = c.rest; set = set; last = Some (later_of (le s.policy.now) o job); free = 0 })
+            one_displaces_met word o lasts =
                 record {
                   inside = λ i h on.
                       ⊎_elim
@@ -465,8 +486,8 @@ module _ {P K : Type 0} (keyed : P → Entry → ℕ → K) (le : P → K → K 
                 }
 
       -- .. where there is no CPU at all
-      pub none_for_it : c.free ≡ 0 → ((i : ℕ) → i < 32 → has c.set i ≡ false) → LastTo keyed le s c.set 32 c.last → RunSoFar keyed le s (n + 1) c
-      none_for_it none_free empty lasts =
+      pub none_for_it_met : c.free ≡ 0 → ((i : ℕ) → i < 32 → has c.set i ≡ false) → LastTo keyed le s c.set 32 c.last → RunOfMet keyed le s (n + 1) c
+      none_for_it_met none_free empty lasts =
           record {
             inside = λ i h on. absurd (both_ways (has c.set i) (empty i h) on);
             ahead = λ i j k l h m met on. absurd (both_ways (has c.set i) (empty i h) on);
@@ -475,3 +496,72 @@ module _ {P K : Type 0} (keyed : P → Entry → ℕ → K) (le : P → K → K 
             last = lasts;
             word = r.word;
           }
+
+    -- 5. the same of the jobs below a number: as RunSoFar says nothing of the rest, that may be taken for all of the slot's jobs
+    abbrev from_all : Contest K → Contest K
+    from_all c = record { rest = s.jobs; set = c.set; last = c.last; free = c.free }
+
+    below_there : (n j : ℕ) → (j < n) ⊎ (has s.jobs j ≡ false) → has s.jobs j ≡ true → j < n
+    below_there n j met on = ⊎_elim (λ (l : j < n). l) (λ (off : has s.jobs j ≡ false). absurd (both_ways (has s.jobs j) off on)) met
+
+    met_so_far : (n : ℕ) (c : Contest K) → RunSoFar keyed le s n c → RunOfMet keyed le s n (from_all c)
+    met_so_far n c r =
+        record {
+          inside = λ i h on. let was = r.inside i h on in (was.0, inl was.1);
+          ahead = λ i j k l h low met on off e f. r.ahead i j k l h (below_there n j met (there_of j l f)) on off e f;
+          places = r.places;
+          free = λ some i h met on. r.free some i (below_there n i met on) on;
+          last = r.last;
+          word = r.word;
+        }
+
+    so_far_met : (m : ℕ) (c : Contest K) → m ≤ 32 → RunOfMet keyed le s m (from_all c) → RunSoFar keyed le s m c
+    so_far_met m c top r =
+        let a = all_below m (from_all c) top (λ i h on. let was = r.inside i h on in below_there m i was.1 was.0) r in
+        record { inside = a.inside; ahead = a.ahead; places = a.places; free = a.free; last = a.last; word = a.word }
+
+    pub none_run : {rest : ℕ} (n : ℕ) → NextIn s.jobs 0 n → RunSoFar keyed le s n (record { rest = rest; set = 0; last = None; free = s.cpus })
+    none_run n next =
+        record {
+          inside = λ i h on. absurd (both_ways (has 0 i) (none_has i) on);
+          ahead = λ i j k l h m on. absurd (both_ways (has 0 i) (none_has i) on);
+          places = omega (arith, count_zero 32 (has 0) (λ i h on. both_ways (has 0 i) (none_has i) on));
+          free = λ some i h on. absurd (both_ways (has s.jobs i) (next.skipped i (omega arith) h) on);
+          last = λ i h. none_has i;
+          word = omega arith;
+        }
+
+    -- numbers that have no job change nothing
+    pub run_on : (n m : ℕ) (c : Contest K) → n ≤ m → m ≤ 32 → ((i : ℕ) → n ≤ i → i < m → has s.jobs i ≡ false) → RunSoFar keyed le s n c → RunSoFar keyed le s m c
+    run_on n m c up top none r = so_far_met m c top (run_on_met n m (from_all c) up none (met_so_far n c r))
+
+    -- one job more
+    module _ (c : Contest K) (job : Job K) (low : job.place < 32) (key : keys_of keyed s job.place ≡ Some job.key) (r : RunSoFar keyed le s job.place c) where
+      job_there : has s.jobs job.place ≡ true
+      job_there = there_of job.place job.key key
+
+      was_met : RunOfMet keyed le s job.place (from_all c)
+      was_met = met_so_far job.place c r
+
+      module _ (set : ℕ) (is : (i : ℕ) → i < 32 → has set i ≡ cond (eqb i job.place) true (has c.set i)) where
+        pub one_placed : set < 4294967296 → (free : ℕ) → c.free ≡ free + 1 → RunSoFar keyed le s (job.place + 1) (record { rest = c.rest; set = set; last = Some (later_of (le s.policy.now) c.last job); free = free })
+        one_placed word free f =
+            so_far_met (job.place + 1) (record { rest = c.rest; set = set; last = Some (later_of (le s.policy.now) c.last job); free = free }) (omega (arith, low))
+            (one_placed_met (from_all c) job low job_there key was_met set is word free f)
+
+      module _ (none_free : c.free ≡ 0) (a : Job K) (last : LastOf keyed le s c.set 32 a) where
+        pub one_waits : before job.key job.place a.key a.place ≡ false → LastTo keyed le s c.set 32 c.last → RunSoFar keyed le s (job.place + 1) c
+        one_waits behind lasts = so_far_met (job.place + 1) c (omega (arith, low)) (one_waits_met (from_all c) job low job_there key was_met none_free a last behind lasts)
+
+        module _ (goes : before job.key job.place a.key a.place ≡ true) (others : ℕ) (without : (i : ℕ) → i < 32 → has others i ≡ cond (eqb i a.place) false (has c.set i)) where
+          pub others_inside : Within others s.jobs
+          others_inside = others_inside_met (from_all c) job low job_there key was_met none_free a last goes others without
+
+          module _ (set : ℕ) (is : (i : ℕ) → i < 32 → has set i ≡ cond (eqb i job.place) true (has others i)) where
+            pub one_displaces : set < 4294967296 → (o : Option (Job K)) → LastTo keyed le s others 32 o → RunSoFar keyed le s (job.place + 1) (record { rest = c.rest; set = set; last = Some (later_of (le s.policy.now) o job); free = 0 })
+            one_displaces word o lasts =
+                so_far_met (job.place + 1) (record { rest = c.rest; set = set; last = Some (later_of (le s.policy.now) o job); free = 0 }) (omega (arith, low))
+                (one_displaces_met (from_all c) job low job_there key was_met none_free a last goes others without set is word o lasts)
+
+      pub none_for_it : c.free ≡ 0 → ((i : ℕ) → i < 32 → has c.set i ≡ false) → LastTo keyed le s c.set 32 c.last → RunSoFar keyed le s (job.place + 1) c
+      none_for_it none_free empty lasts = so_far_met (job.place + 1) c (omega (arith, low)) (none_for_it_met (from_all c) job low job_there key was_met none_free empty lasts)

@@ -35,13 +35,24 @@ abbrev pub LastTo : {P K : Type 0} → (P → Entry → ℕ → K) → (P → K 
 LastTo keyed le s set n None = (i : ℕ) → i < n → has set i ≡ false
 LastTo keyed le s set n (Some job) = LastOf keyed le s set n job
 
+-- Of the slot's jobs below n, those of the set run: each of them stands before each of the others, there is a CPU for each of
+-- them, and where a CPU is free none of the others is left.
+pub record RunSoFar {P K : Type 0} (keyed : P → Entry → ℕ → K) (le : P → K → K → Bool) (s : Slot P) (n : ℕ) (c : Contest K) : Type 0 where
+  pub inside : (i : ℕ) → i < 32 → has c.set i ≡ true → (has s.jobs i ≡ true) × (i < n)
+  pub ahead : (i j : ℕ) (k l : K) → i < 32 → j < n → has c.set i ≡ true → has c.set j ≡ false → keys_of keyed s i ≡ Some k → keys_of keyed s j ≡ Some l
+      → stands_before (le s.policy.now) k i l j ≡ true
+  pub places : count_below 32 (has c.set) + c.free ≡ s.cpus
+  pub free : 0 < c.free → (i : ℕ) → i < n → has s.jobs i ≡ true → has c.set i ≡ true
+  pub last : LastTo keyed le s c.set 32 c.last
+  pub word : c.set < 4294967296
+
 -- job j was gone through once those of the rest below n were: it is one of these, or not of the rest
 abbrev pub Met : {K : Type 0} → Contest K → (n j : ℕ) → Type 0
 Met c n j = (j < n) ⊎ (has c.rest j ≡ false)
 
--- Of the slot's jobs that were gone through once those of the rest below n were, those of the set run: each of them stands
--- before each of the others, there is a CPU for each of them, and where a CPU is free none of the others is left.
-pub record RunSoFar {P K : Type 0} (keyed : P → Entry → ℕ → K) (le : P → K → K → Bool) (s : Slot P) (n : ℕ) (c : Contest K) : Type 0 where
+-- The same of a choice that may begin with some of the jobs: of the slot's jobs that were gone through once those of the rest
+-- below n were, those of the set run.
+pub record RunOfMet {P K : Type 0} (keyed : P → Entry → ℕ → K) (le : P → K → K → Bool) (s : Slot P) (n : ℕ) (c : Contest K) : Type 0 where
   pub inside : (i : ℕ) → i < 32 → has c.set i ≡ true → (has s.jobs i ≡ true) × Met c n i
   pub ahead : (i j : ℕ) (k l : K) → i < 32 → j < 32 → Met c n j → has c.set i ≡ true → has c.set j ≡ false → keys_of keyed s i ≡ Some k → keys_of keyed s j ≡ Some l
       → stands_before (le s.policy.now) k i l j ≡ true

@@ -1,9 +1,9 @@
-ghost use Rattle.std.specs.Prelude.{◌≡◌, ◌+◌, ◌<◌, ◌≤◌, true, None, Some, MatchOption, slice_index};
+ghost use Rattle.std.specs.Prelude.{◌≡◌, ◌+◌, ◌<◌, ◌≤◌, true, ◌⊎◌, None, Some, MatchOption, slice_index};
 ghost use Rattle.schedule.specs.Counting.{count_below};
 ghost use Rattle.policy.specs.Dispatch.{since};
 ghost use Rattle.policy.specs.Members.{has, Within};
 ghost use Rattle.policy.specs.Order.{stands_before};
-ghost use Rattle.policy.specs.Slots.{keys_of, later_of, LastTo, RunSoFar, Runs};
+ghost use Rattle.policy.specs.Slots.{keys_of, later_of, LastTo, RunOfMet, RunSoFar, Runs};
 
 use crate::policy::Policy;
 use crate::sets::placed;
@@ -103,14 +103,16 @@ impl<P: Policy> Slot<'_, P> {
         (last, count)
     }
 
-    // One job more: it runs where a CPU is free, or in the place of the last that runs where it stands before that one.
+    // One job more: it runs where a CPU is free, or in the place of the last that runs where it stands before that one. Where
+    // just the jobs below it had been gone through, just those up to it have been afterwards.
     fn admit(&self, contest: Contest<P::Key>, job: Job<P::Key>) -> Contest<P::Key>
         requires place { job.place < 32 }
         requires rest { has contest.rest job.place ≡ true }
         requires key { keys_of P.Policy.keyed self.now job.place ≡ Some job.key }
-        requires so_far { RunSoFar P.Policy.keyed P.Policy.precedes self.now job.place contest }
-        ensures so_far { RunSoFar P.Policy.keyed P.Policy.precedes self.now (job.place + 1) result }
+        requires so_far { RunOfMet P.Policy.keyed P.Policy.precedes self.now job.place contest }
+        ensures so_far { RunOfMet P.Policy.keyed P.Policy.precedes self.now (job.place + 1) result }
         ensures rest { result.rest ≡ contest.rest }
+        ensures in_turn { RunSoFar P.Policy.keyed P.Policy.precedes self.now job.place contest → RunSoFar P.Policy.keyed P.Policy.precedes self.now (job.place + 1) result }
     {
         let place = job.place;
         if contest.free > 0 {
@@ -137,13 +139,14 @@ impl<P: Policy> Slot<'_, P> {
     }
 
     // A choice that begins with the jobs of the set, of which the last and the count are given, if there are CPUs for all of
-    // them, and else with none.
+    // them, and else with none. Where it begins with none no job has been gone through, and the rest are all jobs.
     fn begin(&self, kept: u32, last: Option<Job<P::Key>>, count: u8) -> Contest<P::Key>
         requires kept { Within kept self.now.jobs }
         requires last { LastTo P.Policy.keyed P.Policy.precedes self.now kept 32 last }
         requires count { count ≡ count_below 32 (has kept) }
-        ensures so_far { RunSoFar P.Policy.keyed P.Policy.precedes self.now 0 result }
+        ensures so_far { RunOfMet P.Policy.keyed P.Policy.precedes self.now 0 result }
         ensures rest { Within result.rest self.now.jobs }
+        ensures none { (kept ≡ 0) ⊎ (self.now.cpus < count) → RunSoFar P.Policy.keyed P.Policy.precedes self.now 0 result × Within self.now.jobs result.rest }
     {
         if count > self.cpus {
             return Contest {

@@ -1,10 +1,12 @@
 -- What a watch says goes on through a calm instant, and where the trial stays.
-use Rattle.std.proofs.Common.{◌≡◌, ℕ, zero, suc, ◌+◌, ◌-◌, ◌/◌, ◌<◌, ◌≤◌, List, get_or, Some, None, Option, sym, ap, ◌∙◌, subst, ⊎_elim, arith}
+use Rattle.std.specs.Prelude.{count_ones}
+use Rattle.std.proofs.Common.{◌≡◌, true, ℕ, zero, suc, ◌+◌, ◌-◌, ◌/◌, ◌<◌, ◌≤◌, List, get_or, Some, None, Option, sym, ap, ◌∙◌, subst, ⊎_elim, arith}
 use Rattle.std.proofs.lemmas.Bool.{both_ways, cases_lt}
 use Rattle.task.specs.declared.entry.Entry.{Entry}
 use Rattle.task.specs.declared.task.Task.{Task}
 use Rattle.task.specs.Tables.{entry_at}
 use Rattle.policy.specs.Dispatch.{is_active}
+use Rattle.policy.specs.Members.{has}
 use Rattle.policy.specs.Releases.{Released, Latest}
 use Rattle.trial.specs.declared.trial.Trial.{Trial}
 use Rattle.trial.specs.declared.watch.Watch.{Watch}
@@ -56,14 +58,20 @@ calm_before w i h = let g : i / 8 < 4 = omega arith in omega (arith, w.soonest (
 pub latest_before : (w : Watch) (i t : ℕ) → i < 32 → w.since ≤ t → t < w.calm → Latest (entry_at w.tasks.now i) t (get_or w.calendar.released i 0)
 latest_before w i t h l m = stays_until (entry_at w.tasks.now i) w.since t (get_or w.calendar.released i 0) l (w.latest i h) (λ v p q. w.calm_is i h v p (omega (arith, calm_before w i h)))
 
+-- where the trial stays, what a watch says of its instants and its active jobs stays so, also of a watch that may deny that
+-- there are CPUs for all of them where there are
+pub watch_stays : (tasks : List (Option Task)) (a b : Trial) (w : Watch) → Marked a b
+    → w.since ≤ a.instant → a.instant < w.calm → ((i : ℕ) → i < 32 → has w.calendar.active i ≡ is_active (entry_at tasks) a.left i) → (w.few ≡ true → count_ones w.calendar.active ≤ a.cpus)
+    → (w.since ≤ b.instant) × (b.instant < w.calm) × ((i : ℕ) → i < 32 → has w.calendar.active i ≡ is_active (entry_at tasks) b.left i) × (w.few ≡ true → count_ones w.calendar.active ≤ b.cpus)
+watch_stays tasks a b w k begun calm active few = (
+  omega (arith, begun, k.instant_kept),
+  omega (arith, calm, k.instant_kept),
+  λ i h. active i h ∙ ap (λ xs. is_active (entry_at tasks) xs i) (sym k.left_kept),
+  λ h. omega (arith, few h, k.cpus_kept),
+)
+
 -- where the trial stays, it is watched still
 pub watched_still : (tasks : List (Option Task)) (a b : Trial) (w : Watch) → Watched tasks a w → Marked a b → Watched tasks b w
 watched_still tasks a b w s k =
-    record {
-      tasks_are = s.tasks_are;
-      begun = omega (arith, s.begun, k.instant_kept);
-      not_over = omega (arith, s.not_over, k.instant_kept);
-      active_is = λ i h. s.active_is i h ∙ ap (λ xs. is_active (entry_at tasks) xs i) (sym k.left_kept);
-      few_are = λ h. omega (arith, s.few_are h, k.cpus_kept);
-      are_few = λ h. s.are_few (omega (arith, h, k.cpus_kept));
-    }
+    let t = watch_stays tasks a b w k s.begun s.not_over s.active_is s.few_are in
+    record { tasks_are = s.tasks_are; begun = t.0; not_over = t.1; active_is = t.2; few_are = t.3; are_few = λ h. s.are_few (omega (arith, h, k.cpus_kept)) }

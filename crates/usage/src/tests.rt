@@ -1,6 +1,7 @@
 use bench::bench::Bench;
 use bench::verdict::Verdict;
 use policy::deadline::Deadline;
+use policy::dispatch::running_set;
 use policy::heavy::{HeavyFirst, Threshold};
 use policy::policy::Policy;
 use policy::rank::Rank;
@@ -8,6 +9,7 @@ use sheet::fault::{LoadFault, SheetFault};
 use std::process::Abort;
 use std::test::Fail;
 use task::entry::Entry;
+use task::table::Table;
 
 /// A sheet for two CPUs: two light tasks, and a heavy one that they starve unless it goes first.
 const STRAP: &[u8] = b"CP\x02\
@@ -103,6 +105,26 @@ fn ten_calls_under_a_layer_and_a_pile(rt: HostRuntime) -> Result<(), Fail> {
     };
     ten_calls(&rt, pile, (0b100, 1), holds, b"HOLDS 0 20\n");
     Ok(())
+}
+
+/// Three jobs for two CPUs, chosen one after another, the first two while a CPU is free: by ranks the third waits, and by
+/// deadlines it takes the place of the first.
+#[test]
+fn jobs_are_chosen_in_turn(rt: HostRuntime) {
+    let mut table = Table::new();
+    for e in [
+        entry(0, 0, 1, 4, 4),
+        entry(1, 0, 1, 3, 3),
+        entry(2, 0, 1, 2, 2),
+    ] {
+        assert_eq!(rt; table.enter(e), Ok(()));
+    }
+    let mut left = [0; 32];
+    left[0] = 1;
+    left[1] = 1;
+    left[2] = 1;
+    assert_eq!(rt; running_set(&Rank, table.tasks(), &left, 0, 2), 0b011);
+    assert_eq!(rt; running_set(&Deadline, table.tasks(), &left, 0, 2), 0b110);
 }
 
 /// Two equal tasks in turn: in the first slot task 0 runs alone, and in the second task 1.

@@ -1,6 +1,7 @@
--- The jobs of the rest up to the next are admitted.
+-- The jobs of the rest up to the next are admitted: all jobs up to it, where the choice began with none.
+use Rattle.std.proofs.Common.{◌≡◌, ◌<◌, ◌⊎◌}
 use Rattle.policy.specs.Members.{Within}
-use Rattle.policy.specs.Slots.{RunSoFar}
+use Rattle.policy.specs.Slots.{RunOfMet, RunSoFar}
 use Rattle.policy.proofs.Rising.{first, Along}
 use Rattle.policy.proofs.slot.Slot.contest.Given as goal
 
@@ -11,4 +12,5 @@ invariant-loop-i g l =
     × (goal.iterator-loop-i g).is_finite l.i-iterator
     × Within l.contest.rest l.self.jobs
     × Along l.contest.rest l.i-iterator
-    × RunSoFar p.keyed p.precedes l.self (first l.i-iterator) l.contest
+    × RunOfMet p.keyed p.precedes l.self (first l.i-iterator) l.contest
+    × ((l.kept ≡ 0) ⊎ (l.self.cpus < l.count) → RunSoFar p.keyed p.precedes l.self (first l.i-iterator) l.contest × Within l.self.jobs l.contest.rest)

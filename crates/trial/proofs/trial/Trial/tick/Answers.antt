@@ -1,5 +1,5 @@
 use Rattle.std.specs.Prelude.{Decides}
-use Rattle.std.proofs.Common.{◌≡◌, ℕ, ◌<◌, ◌≤◌, true, not, ◌&&◌, sym, refl, ap, ap₂, ◌∙◌, subst, arith}
+use Rattle.std.proofs.Common.{◌≡◌, ℕ, ◌<◌, ◌≤◌, not, ◌&&◌, sym, refl, ap, ap₂, ◌∙◌, subst, arith}
 use lib.Count.{ones}
 use Rattle.task.specs.Tables.{entry_at}
 use Rattle.policy.specs.Members.{has}
